@@ -1,0 +1,9 @@
+pub mod Images
+pub mod Readings
+pub mod RankLaws
+pub mod WordLaws
+pub mod InsertionLaws
+pub mod RankedImages
+pub mod CycleLaws
+pub mod CycleTexts
+pub mod CycleProducts

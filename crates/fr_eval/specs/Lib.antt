@@ -1,0 +1,12 @@
+pub mod Blocks
+pub mod BlockNames
+pub mod BlockFaults
+pub mod Scopes
+pub mod Plain
+pub mod PlainScripts
+pub mod Tables
+pub mod Names
+pub mod Built
+pub mod BlockRows
+pub mod Places
+pub mod Gives

@@ -1,0 +1,17 @@
+pub mod CanonLaws
+pub mod CleanCountLaws
+pub mod FindLaws
+pub mod FixedLaws
+pub mod InverseLaws
+pub mod MarkLaws
+pub mod MemberLaws
+pub mod OrderLaws
+pub mod PartitionLaws
+pub mod PredecessorLaws
+pub mod RowLaws
+pub mod SettlingLaws
+pub mod SignatureLaws
+pub mod StartLaws
+pub mod TargetLaws
+pub mod WalkLaws
+pub mod WorkLaws

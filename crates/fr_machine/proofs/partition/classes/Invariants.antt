@@ -1,0 +1,16 @@
+use Rattle.std.proofs.Common.{◌≡◌, ◌-◌, ◌+◌, length, min}
+use Rattle.fr_machine.specs.Members.{IsMembers}
+use Rattle.fr_machine.specs.Refinement.{IsRefining, IsQueued}
+use Rattle.fr_machine.proofs.partition.classes.Given as goal
+
+abbrev pub invariant-loop-rows : goal.invariant-loop-rows
+invariant-loop-rows l = record {
+  refining : IsRefining l.rows l.partition;
+  queued : IsQueued l.partition l.partition.todo.items;
+  members : IsMembers l.members;
+  member_count : length l.members.of.items ≡ length l.rows;
+}
+
+-- a class more, or nothing left to do
+abbrev pub decreases-loop-rows : goal.decreases-loop-rows
+decreases-loop-rows l = (length l.rows - length l.partition.known.items) + min 1 (length l.partition.todo.items)

@@ -1,0 +1,10 @@
+pub mod Rows
+pub mod Machine
+pub mod Numberings
+pub mod Classes
+pub mod Refinement
+pub mod Walks
+pub mod Minimal
+pub mod Inverses
+pub mod Members
+pub mod Predecessors

@@ -1,0 +1,310 @@
+//! Rows that act alike, found by refining a partition of all rows.
+
+ghost use Rattle.std.specs.Prelude.{◌≡◌, ℕ, ◌<◌, ◌≤◌, Some, None, [], ◌∷◌, IfOk, OnOk, length, true, slice_index_or, replicate};
+ghost use Rattle.fr_model.specs.Permutations.{numbers_from};
+ghost use Rattle.std.specs.List.{All, Contains};
+ghost use Rattle.std.specs.BTreeMap.{Updates};
+ghost use Rattle.std.specs.Cmp.Lexicographic.{slice_cmp};
+ghost use Rattle.std.specs.Ordering.{nat_cmp};
+ghost use Rattle.fr_machine.specs.Rows.{IsRow, IsMachine};
+ghost use Rattle.fr_machine.specs.Members.{IsMembers};
+ghost use Rattle.fr_machine.specs.Numberings.{IsNumbering};
+ghost use Rattle.fr_machine.specs.Classes.{AreClasses};
+ghost use Rattle.fr_machine.specs.Refinement.{signature_of, signed_rows, number_in, clean_at, flag_at, known_at, IsTarget, IsPlaced, IsMarked, IsWider, IsSeen, IsUsed, IsTallied, IsQueued, IsRefining, IsSettled, IsSpread, IsSpreadOver, Progress};
+ghost use Rattle.fr_machine.specs.Predecessors.{AreLinks, ArePredecessors, lists_of};
+
+use crate::machine::Machine;
+use crate::members::Members;
+use crate::numbering::by_first_places;
+use crate::predecessors::Predecessors;
+use crate::row::Row;
+use crate::signature::{Signature, Signed, in_order, with_signatures};
+use fr_alphabet::NoMemory;
+use std::alloc::Global;
+use std::collections::BTreeMap;
+use std::mem;
+
+/// The class of each row: rows have one class exactly where they send each word to the same word, and classes are
+/// numbered from 0 in the order of their first rows. The only error is want of memory.
+///
+/// Classes are refined as Moore does it for automata, by what rows put out and the classes of their next rows. After
+/// Hopcroft, a row comes to another class only if that has at most half the size of the one before. So of n rows at most
+/// log n times as many come to another class, whatever the machine, and only rows before these are looked at again. The
+/// bound on time is not proved; what the classes are is.
+pub fn classes(alloc: Global, m: &Machine) -> Result<Vec<u16>, NoMemory>
+    ensures { IfOk result (λ of. AreClasses m.now.rows of.items) }
+{
+    let rows = m.rows();
+    let before = Predecessors::new(alloc, rows)?;
+    let mut partition = Partition::new(alloc, rows.len())?;
+    let mut members = Members::new(alloc, rows.len())?;
+    while !partition.todo.is_empty() {
+        partition.refine(alloc, rows, &before, &mut members)?;
+    }
+    by_first_places(alloc, partition.known.len(), &partition.of)
+}
+
+// A class and a signature.
+type Key = [u16; 17];
+
+// The classes so far. A row is clean while none of its next rows has come to another class since its own was chosen.
+#[derive(Drop)]
+struct Partition {
+    // The class of each row.
+    of: Vec<u16>,
+    // The signature of the clean rows of each class.
+    known: Vec<Signature>,
+    // How many rows of each class are clean.
+    clean: Vec<u32>,
+    // Whether a row is dirty.
+    dirty: Vec<bool>,
+    // The dirty rows.
+    todo: Vec<u16>,
+}
+
+impl Partition {
+    // All rows in one class, and dirty.
+    fn new(alloc: Global, count: usize) -> Result<Partition, NoMemory>
+        requires { count ≤ 65536 }
+        ensures of { IfOk result (λ p. p.of.items ≡ replicate count 0) }
+        ensures dirty { IfOk result (λ p. p.dirty.items ≡ replicate count true) }
+        ensures known { IfOk result (λ p. p.known.items ≡ replicate 16 0 ∷ []) }
+        ensures clean { IfOk result (λ p. p.clean.items ≡ 0 ∷ []) }
+        ensures todo { IfOk result (λ p. p.todo.items ≡ numbers_from 0 count) }
+    {
+        let of = vec![in alloc; 0u16; count]?;
+        let dirty = vec![in alloc; true; count]?;
+        let mut todo = Vec::with_capacity(alloc, count)?;
+        for row in 0..count {
+            todo.push(row as u16)?;
+        }
+        let mut known = Vec::new(alloc);
+        known.push([0; 16])?;
+        let mut clean = Vec::new(alloc);
+        clean.push(0)?;
+        Ok(Partition {
+            of,
+            known,
+            clean,
+            dirty,
+            todo,
+        })
+    }
+
+    // Sends the dirty rows to their classes, which makes others dirty: one round of refinement. `members` has the rows of
+    // each class, and `before` the rows before each row.
+    fn refine(
+        &mut self,
+        alloc: Global,
+        rows: &[Row],
+        before: &Predecessors,
+        members: &mut Members,
+    ) -> Result<(), NoMemory>
+        requires machine { (d : ℕ) × IsMachine d rows.now }
+        requires before { ArePredecessors rows.now before.now }
+        requires refining { IsRefining rows.now self.old }
+        requires queued { IsQueued self.old self.old.todo.items }
+        requires members { IsMembers members.old }
+        requires member_count { length members.old.of.items ≡ length rows.now }
+        ensures refining { OnOk result (IsRefining rows.now self.new) }
+        ensures queued { OnOk result (IsQueued self.new self.new.todo.items) }
+        ensures progress { OnOk result (Progress self.old self.new) }
+        ensures members { OnOk result (IsMembers members.new) }
+        ensures member_count { OnOk result (length members.new.of.items ≡ length rows.now) }
+    {
+        self.mark_most(members)?;
+        let todo = mem::replace(&mut self.todo, Vec::new(alloc));
+        let moved = self.settle(alloc, rows, &todo)?;
+        members.follow(&self.of, &moved);
+        self.mark_before_each(before, &moved)?;
+        Ok(())
+    }
+
+    // Takes all rows of a class for dirty where most of them are. Clean rows keep the number of their class, so without
+    // this most rows of a class might come to another one. Now no row comes to a class of more than half the size of
+    // the one that it had.
+    fn mark_most(&mut self, members: &Members) -> Result<(), NoMemory>
+        requires members { IsMembers members.now }
+        requires count { length members.now.of.items ≡ length self.old.of.items }
+        requires tallied { IsTallied self.old }
+        requires used { IsUsed self.old }
+        requires queued { IsQueued self.old self.old.todo.items }
+        ensures { OnOk result (IsWider self.old self.new) }
+    {
+        for i in 0..self.todo.len() {
+            let row = self.todo[i];
+            let class = self.of[row as usize];
+            let clean = self.clean[class as usize];
+            let count = members.size(class);
+            if clean > 0 && 2 * clean < count {
+                self.mark_class(members, row, count)?;
+            }
+        }
+        Ok(())
+    }
+
+    // Takes all rows of a class, which are so many, for dirty.
+    fn mark_class(&mut self, members: &Members, row: u16, count: u32) -> Result<(), NoMemory>
+        requires members { IsMembers members.now }
+        requires count { length members.now.of.items ≡ length self.old.of.items }
+        requires row { row < length self.old.of.items }
+        requires tallied { IsTallied self.old }
+        requires queued { IsQueued self.old self.old.todo.items }
+        ensures { OnOk result (IsWider self.old self.new) }
+    {
+        let mut member = row;
+        for _ in 0..count {
+            self.mark(member)?;
+            member = members.next(member);
+        }
+        Ok(())
+    }
+
+    // Sends these rows, which are all that are dirty, to their classes, and gives those that came to another class. What
+    // they put out and where they lead is read before the first of them goes.
+    fn settle(&mut self, alloc: Global, rows: &[Row], todo: &[u16]) -> Result<Vec<u16>, NoMemory>
+        requires rows { All (λ r. IsRow (length r.perm) (length self.old.of.items) r) rows.now }
+        requires refining { IsRefining rows.now self.old }
+        requires queued { IsQueued self.old todo.now }
+        requires todo { self.old.todo.items ≡ [] }
+        ensures { IfOk result (λ moved. IsSettled rows.now self.old.of.items (length self.old.known.items) self.new moved.items) }
+    {
+        let work = in_order(alloc, with_signatures(alloc, rows, &self.of, todo)?)?;
+        let mut seen = BTreeMap::new(alloc);
+        let mut moved = Vec::new(alloc);
+        for item in &work {
+            if self.place(&mut seen, item)? {
+                moved.push(item.row)?;
+            }
+        }
+        Ok(moved)
+    }
+
+    // Sends a row to its class if it is dirty, and tells whether that is another one than before.
+    fn place(&mut self, seen: &mut BTreeMap<Key, u16>, item: &Signed) -> Result<bool, NoMemory>
+        requires row { item.now.row < length self.old.of.items }
+        requires tallied { IsTallied self.old }
+        requires used { IsUsed self.old }
+        requires seen { IsSeen self.old seen.old }
+        ensures { IfOk result (λ moves. IsPlaced self.old self.new seen.old seen.new item.now.row item.now.signature moves) }
+    {
+        let row = item.row as usize;
+        if !self.dirty[row] {
+            return Ok(false);
+        }
+        let class = self.of[row];
+        let target = self.target(seen, class, &item.signature)?;
+        self.of[row] = target;
+        self.dirty[row] = false;
+        self.clean[target as usize] += 1;
+        Ok(target != class)
+    }
+
+    // The class to which a row of this class with this signature goes: its own, if it has no clean row or if the
+    // signature is that of its clean rows, else another, which is the same for each row with both.
+    fn target(
+        &mut self,
+        seen: &mut BTreeMap<Key, u16>,
+        class: u16,
+        signature: &Signature,
+    ) -> Result<u16, NoMemory>
+        requires class { class < length self.old.known.items }
+        requires as_many { length self.old.clean.items ≡ length self.old.known.items }
+        requires room { 0 < clean_at self.old class → length self.old.known.items < 65536 }
+        ensures { IfOk result (λ m. IsTarget self.old self.new seen.old seen.new class signature.now m) }
+    {
+        if self.clean[class as usize] == 0 {
+            self.known[class as usize] = *signature;
+            return Ok(class);
+        }
+        if self.known[class as usize] == *signature {
+            return Ok(class);
+        }
+        let key = key_of(class, signature);
+        match number_of(seen, &key) {
+            Some(number) => Ok(number),
+            None => {
+                let number = self.known.len() as u16;
+                enter(seen, &key, number)?;
+                self.known.push(*signature)?;
+                self.clean.push(0)?;
+                Ok(number)
+            }
+        }
+    }
+
+    // Takes the rows before these for dirty.
+    fn mark_before_each(&mut self, before: &Predecessors, moved: &[u16]) -> Result<(), NoMemory>
+        requires links { AreLinks before.now }
+        requires before { All (λ ps. All (λ p. p < length self.old.of.items) ps) (lists_of before.now) }
+        requires moved { All (λ s. s < length before.now.latest.items) moved.now }
+        requires tallied { IsTallied self.old }
+        requires queued { IsQueued self.old self.old.todo.items }
+        ensures { OnOk result (IsSpreadOver self.old self.new (lists_of before.now) moved.now) }
+    {
+        for row in moved {
+            self.mark_before(before, *row)?;
+        }
+        Ok(())
+    }
+
+    // Takes the rows before a row for dirty.
+    fn mark_before(&mut self, before: &Predecessors, row: u16) -> Result<(), NoMemory>
+        requires links { AreLinks before.now }
+        requires row { row < length before.now.latest.items }
+        requires inside { All (λ s. s < length self.old.of.items) (slice_index_or (lists_of before.now) row []) }
+        requires tallied { IsTallied self.old }
+        requires queued { IsQueued self.old self.old.todo.items }
+        ensures { OnOk result (IsSpread self.old self.new (slice_index_or (lists_of before.now) row [])) }
+    {
+        let mut number = before.latest(row);
+        while number > 0 {
+            let link = before.link(number);
+            self.mark(link.row)?;
+            number = link.earlier;
+        }
+        Ok(())
+    }
+
+    // Takes a row for dirty.
+    fn mark(&mut self, row: u16) -> Result<(), NoMemory>
+        requires row { row < length self.old.of.items }
+        requires tallied { IsTallied self.old }
+        requires queued { IsQueued self.old self.old.todo.items }
+        ensures { OnOk result (IsMarked self.old self.new row) }
+    {
+        let s = row as usize;
+        if self.dirty[s] {
+            return Ok(());
+        }
+        self.dirty[s] = true;
+        self.clean[self.of[s] as usize] -= 1;
+        self.todo.push(row)?;
+        Ok(())
+    }
+}
+
+// The key of rows of one class with one signature.
+fn key_of(class: u16, signature: &Signature) -> Key
+    ensures { result ≡ class ∷ signature.now }
+{
+    let mut key = [0; 17];
+    key[0] = class;
+    key[1..].copy_from_slice(signature);
+    key
+}
+
+// The number of the class that was made for a key.
+fn number_of(seen: &BTreeMap<Key, u16>, key: &Key) -> Option<u16>
+    ensures { result ≡ number_in seen.now key.now }
+{
+    seen.get(key).copied()
+}
+
+// Enters the number of the class that is made for a key.
+fn enter(seen: &mut BTreeMap<Key, u16>, key: &Key, number: u16) -> Result<(), NoMemory>
+    ensures { OnOk result (Updates (slice_cmp nat_cmp) seen.old seen.new key.now (Some number)) }
+{
+    seen.insert(*key, number)?;
+    Ok(())
+}

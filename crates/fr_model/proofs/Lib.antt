@@ -1,0 +1,14 @@
+pub mod PermutationLaws
+pub mod SystemLaws
+pub mod TermLaws
+pub mod AlikeLaws
+pub mod AutomatonLaws
+pub mod CountLaws
+pub mod ClassLaws
+pub mod FreeWordLaws
+pub mod ConstructionLaws
+pub mod CanonicalLaws
+pub mod RankLaws
+pub mod CodeLaws
+pub mod GrowthLaws
+pub mod LimitLaws

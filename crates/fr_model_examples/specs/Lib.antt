@@ -1,0 +1,15 @@
+pub mod Groups
+pub mod Automata
+pub mod ComputedPermutations
+pub mod ComputedReadings
+pub mod ComputedActions
+pub mod ComputedSectionWords
+pub mod TermInstances
+pub mod SizeInstances
+pub mod SeparationInstances
+pub mod NumberingInstances
+pub mod WalkInstances
+pub mod ConstructionInstances
+pub mod GrowthInstances
+pub mod NucleusInstances
+pub mod RayInstances

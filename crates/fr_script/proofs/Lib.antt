@@ -1,0 +1,15 @@
+pub mod Choices
+pub mod ReadingLaws
+pub mod InnerLaws
+pub mod KindLaws
+pub mod OutcomeLaws
+pub mod CycleLaws
+pub mod LetterLaws
+pub mod BlockLaws
+pub mod KeywordLaws
+pub mod ByLines
+pub mod LineCuts
+pub mod ScriptLaws
+pub mod FitLaws
+pub mod FitItems
+pub mod FitReaders

@@ -1,0 +1,15 @@
+pub mod NumberLaws
+pub mod StepLaws
+pub mod Zipper
+pub mod ZipperLaws
+pub mod ValueLaws
+pub mod Runs
+pub mod LineZipper
+pub mod LineLaws
+pub mod LineValueLaws
+pub mod LexerLaws
+pub mod RecursionLaws
+pub mod RecursionValueLaws
+pub mod FaultLaws
+pub mod FitLaws
+pub mod SizeLaws

@@ -1,0 +1,16 @@
+pub mod Tokens
+pub mod Grammar
+pub mod Values
+pub mod Steps
+pub mod Keywords
+pub mod LineSteps
+pub mod Faults
+pub mod LineValues
+pub mod Lines
+pub mod Fits
+pub mod Sizes
+pub mod Recursions
+pub mod RecursionSteps
+pub mod RecursionFaults
+pub use Rattle.fr_model.specs.Words.{IsWord}
+pub use Rattle.fr_model.specs.Permutations.{IsPermutation}

@@ -1,0 +1,28 @@
+//! Laws of the grammar, which no call needs.
+
+ghost use Rattle.std.specs.Prelude.{◌≡◌, ◌≤◌, ℕ, length};
+ghost use Rattle.fr_syntax.specs.Grammar.{LineTree, line_tokens};
+ghost use Rattle.fr_syntax.specs.Fits.{FitsLine};
+ghost use Rattle.fr_syntax.specs.LineValues.{line_value};
+ghost use Rattle.fr_syntax.specs.Sizes.{line_size};
+ghost use Rattle.fr_syntax.specs.Recursions.{RecursionTree, recursion_tokens};
+
+/// No tokens are two lines of the grammar.
+pub fn lines_are_unambiguous()
+    ensures { (a b : LineTree) → line_tokens a ≡ line_tokens b → a ≡ b }
+{}
+
+/// No tokens are two lines of a block.
+pub fn recursions_are_unambiguous()
+    ensures { (a b : RecursionTree) → recursion_tokens a ≡ recursion_tokens b → a ≡ b }
+{}
+
+/// What a line says fits the alphabet over which it is read.
+pub fn lines_fit()
+    ensures { (d : ℕ) (line : LineTree) → FitsLine d (line_value d line) }
+{}
+
+/// What a line says has no more atoms and operations than the line has tokens.
+pub fn lines_are_small()
+    ensures { (d : ℕ) (line : LineTree) → line_size (line_value d line) ≤ length (line_tokens line) }
+{}
