@@ -1,0 +1,12 @@
+pub mod ListingLaws
+pub mod PrintLaws
+pub mod SplitLaws
+pub mod ReadLaws
+pub mod CycleReadLaws
+pub mod StateLaws
+pub mod LineLaws
+pub mod OrderReadLaws
+pub mod WalkReadLaws
+pub mod TextLaws
+pub mod CanonicalOrderLaws
+pub mod FaultLaws

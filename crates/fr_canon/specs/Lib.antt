@@ -1,0 +1,5 @@
+pub mod Codes
+pub mod Listings
+pub mod Texts
+pub mod Readings
+pub mod CycleScans

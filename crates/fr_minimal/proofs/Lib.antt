@@ -1,0 +1,4 @@
+pub mod ChoiceLaws
+pub mod LengthLaws
+pub mod SearchLaws
+pub mod MeetingLaws

@@ -1,0 +1,4 @@
+pub mod PairLaws
+pub mod LimitLaws
+pub mod PeelLaws
+pub mod AddingLaws
