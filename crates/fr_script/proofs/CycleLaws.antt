@@ -8,7 +8,7 @@ use Rattle.std.proofs.Math.Seq.{take-suc-set}
 use Rattle.std.specs.List.{list_any, IsDistinct, AllByRecursion}
 use Rattle.fr_model.specs.Words.{IsLetter, IsWord}
 use Rattle.fr_model.specs.Permutations.{IsPermutation, numbers_from}
-use Rattle.fr_script.specs.Cycles.{letter_after, next_in_cycle, cycles_image, cycles_permutation, cycles_letters, has_repeat}
+use Rattle.fr_script.specs.Cycles.{letter_after, next_in_cycle, disjoint_cycles_image, cycles_permutation, cycles_letters, has_repeat}
 
 -- whether x stands in a list
 abbrev has : ℕ → List ℕ → Bool
@@ -130,10 +130,10 @@ next-target : (x z : ℕ) (cycle : List ℕ) → next_in_cycle cycle x ≡ Some 
 next-target x z [] h = cc
 next-target x z (y ∷ ys) h = elim (after-target y x y z ys h) [ inl k ↦ has-there z y ys k | inr e ↦ has-here z y ys (sym e) ]
 
-image-some : (cycle : List ℕ) (cycles : List (List ℕ)) (x z : ℕ) → next_in_cycle cycle x ≡ Some z → cycles_image (cycle ∷ cycles) x ≡ z
+image-some : (cycle : List ℕ) (cycles : List (List ℕ)) (x z : ℕ) → next_in_cycle cycle x ≡ Some z → disjoint_cycles_image (cycle ∷ cycles) x ≡ z
 image-some cycle cycles x z h = rw h refl
 
-image-none : (cycle : List ℕ) (cycles : List (List ℕ)) (x : ℕ) → next_in_cycle cycle x ≡ None → cycles_image (cycle ∷ cycles) x ≡ cycles_image cycles x
+image-none : (cycle : List ℕ) (cycles : List (List ℕ)) (x : ℕ) → next_in_cycle cycle x ≡ None → disjoint_cycles_image (cycle ∷ cycles) x ≡ disjoint_cycles_image cycles x
 image-none cycle cycles x h = rw h refl
 
 -- a letter has a next one in a cycle, or does not stand there
@@ -151,18 +151,18 @@ has-next : (x : ℕ) (cycle : List ℕ) → has x cycle ≡ true → next_in_cyc
 has-next x cycle h n = let next = has-after (get_or cycle 0 0) x cycle h in cc
 
 -- a letter of the cycles goes to one
-image-inside : (cycles : List (List ℕ)) (x : ℕ) → has x (cycles_letters cycles) ≡ true → has (cycles_image cycles x) (cycles_letters cycles) ≡ true
+image-inside : (cycles : List (List ℕ)) (x : ℕ) → has x (cycles_letters cycles) ≡ true → has (disjoint_cycles_image cycles x) (cycles_letters cycles) ≡ true
 image-inside [] x h = cc
 image-inside (cycle ∷ cycles) x h = elim (next-cases cycle x) [
   | inl k ↦ rw (image-some cycle cycles x k.0 k.1) (has-front k.0 cycle (cycles_letters cycles) (next-target x k.0 cycle k.1))
   | inr n ↦ elim (has-split x cycle (cycles_letters cycles) h) [
     | inl t ↦ absurd (has-next x cycle t n)
-    | inr t ↦ rw (image-none cycle cycles x n) (has-back (cycles_image cycles x) cycle (cycles_letters cycles) (image-inside cycles x t))
+    | inr t ↦ rw (image-none cycle cycles x n) (has-back (disjoint_cycles_image cycles x) cycle (cycles_letters cycles) (image-inside cycles x t))
   ]
 ]
 
 -- another number stays
-image-outside : (cycles : List (List ℕ)) (x : ℕ) → has x (cycles_letters cycles) ≡ false → cycles_image cycles x ≡ x
+image-outside : (cycles : List (List ℕ)) (x : ℕ) → has x (cycles_letters cycles) ≡ false → disjoint_cycles_image cycles x ≡ x
 image-outside [] x h = refl
 image-outside (cycle ∷ cycles) x h =
     let both = or-none (has x cycle) (has x (cycles_letters cycles)) (sym (list_any-append (λ y. y == x) cycle (cycles_letters cycles)) ∙ h) in
@@ -173,7 +173,7 @@ image-outside (cycle ∷ cycles) x h =
 
 -- the image of a letter that is in a cycle, and that of one that is not in it, differ
 image-apart : (cycle : List ℕ) (cycles : List (List ℕ)) (x y z : ℕ) → has_repeat (cycle ++ cycles_letters cycles) ≡ false →
-    next_in_cycle cycle x ≡ Some z → next_in_cycle cycle y ≡ None → z ≡ cycles_image cycles y → ⊥
+    next_in_cycle cycle x ≡ Some z → next_in_cycle cycle y ≡ None → z ≡ disjoint_cycles_image cycles y → ⊥
 image-apart cycle cycles x y z r h n e =
     let parts = repeat-parts cycle (cycles_letters cycles) r in
     let inside : has z cycle ≡ true = next-target x z cycle h in
@@ -182,7 +182,7 @@ image-apart cycle cycles x y z r h n e =
       | inr f ↦ has-next y cycle (rw (← image-outside cycles y f, ← e) inside) n
     ]
 
-image-injective : (cycles : List (List ℕ)) (x y : ℕ) → has_repeat (cycles_letters cycles) ≡ false → cycles_image cycles x ≡ cycles_image cycles y → x ≡ y
+image-injective : (cycles : List (List ℕ)) (x y : ℕ) → has_repeat (cycles_letters cycles) ≡ false → disjoint_cycles_image cycles x ≡ disjoint_cycles_image cycles y → x ≡ y
 image-injective [] x y r e = e
 image-injective (cycle ∷ cycles) x y r e =
     let parts = repeat-parts cycle (cycles_letters cycles) r in
@@ -204,23 +204,23 @@ word-letter d x [] w h = cc
 word-letter d x (y ∷ ys) w h = elim (has-cases x y ys h) [ inl e ↦ rw (← e) w.0 | inr k ↦ word-letter d x ys w.1 k ]
 
 -- the image of a letter is one
-image-letter : (d x : ℕ) (cycles : List (List ℕ)) → IsWord d (cycles_letters cycles) → IsLetter d x → IsLetter d (cycles_image cycles x)
+image-letter : (d x : ℕ) (cycles : List (List ℕ)) → IsWord d (cycles_letters cycles) → IsLetter d x → IsLetter d (disjoint_cycles_image cycles x)
 image-letter d x cycles w l = elim (cases_Bool (has x (cycles_letters cycles))) [
-  | inl t ↦ word-letter d (cycles_image cycles x) (cycles_letters cycles) w (image-inside cycles x t)
+  | inl t ↦ word-letter d (disjoint_cycles_image cycles x) (cycles_letters cycles) w (image-inside cycles x t)
   | inr f ↦ rw (image-outside cycles x f) l
 ]
 
-letters-from : (d k n : ℕ) (cycles : List (List ℕ)) → IsWord d (cycles_letters cycles) → 1 ≤ k → k + n ≤ suc d → IsWord d (map (cycles_image cycles) (numbers_from k n))
+letters-from : (d k n : ℕ) (cycles : List (List ℕ)) → IsWord d (cycles_letters cycles) → 1 ≤ k → k + n ≤ suc d → IsWord d (map (disjoint_cycles_image cycles) (numbers_from k n))
 letters-from d k zero cycles w a b = tt
 letters-from d k (suc n) cycles w a b = (image-letter d k cycles w (a, omega arith), letters-from d (suc k) n cycles w (omega arith) (omega arith))
 
 apart-from : (k j n : ℕ) (cycles : List (List ℕ)) → has_repeat (cycles_letters cycles) ≡ false → k < j →
-    AllByRecursion (λ y. eqb (cycles_image cycles k) y ≡ false) (map (cycles_image cycles) (numbers_from j n))
+    AllByRecursion (λ y. eqb (disjoint_cycles_image cycles k) y ≡ false) (map (disjoint_cycles_image cycles) (numbers_from j n))
 apart-from k j zero cycles r h = tt
 apart-from k j (suc n) cycles r h =
     (ne_eqb _ _ (λ e. let same : k ≡ j = image-injective cycles k j r e in omega (arith, same, h)), apart-from k (suc j) n cycles r (omega arith))
 
-distinct-from : (k n : ℕ) (cycles : List (List ℕ)) → has_repeat (cycles_letters cycles) ≡ false → IsDistinct eqb (map (cycles_image cycles) (numbers_from k n))
+distinct-from : (k n : ℕ) (cycles : List (List ℕ)) → has_repeat (cycles_letters cycles) ≡ false → IsDistinct eqb (map (disjoint_cycles_image cycles) (numbers_from k n))
 unfolding IsDistinct
 distinct-from k zero cycles r = tt
 distinct-from k (suc n) cycles r = (apart-from k (suc k) n cycles r (omega arith), distinct-from (suc k) n cycles r)
@@ -233,7 +233,7 @@ length-numbers k (suc n) = ap suc (length-numbers (suc k) n)
 pub IsPermutation-cycles : (d : ℕ) (cycles : List (List ℕ)) → IsWord d (cycles_letters cycles) → has_repeat (cycles_letters cycles) ≡ false →
     IsPermutation d (cycles_permutation d cycles)
 IsPermutation-cycles d cycles w r = record {
-  degree = length-map (numbers_from 1 d) (cycles_image cycles) ∙ length-numbers 1 d;
+  degree = length-map (numbers_from 1 d) (disjoint_cycles_image cycles) ∙ length-numbers 1 d;
   letters = letters-from d 1 d cycles w (omega arith) (omega arith);
   distinct = distinct-from 1 d cycles r;
 }
@@ -247,12 +247,12 @@ numbers-more : (k n : ℕ) → numbers_from k (suc n) ≡ numbers_from k n ++ (k
 numbers-more k zero = ap (λ m. m ∷ []) (omega arith)
 numbers-more k (suc n) = ap (λ l. k ∷ l) (numbers-more (suc k) n ∙ ap (λ m. numbers_from (suc k) n ++ m ∷ []) (omega arith))
 
-pub image_more : (cycles : List (List ℕ)) (images : List ℕ) (x v : ℕ) → x < length images → take x images ≡ map (cycles_image cycles) (numbers_from 1 x) →
-    v ≡ cycles_image cycles (x + 1) → take (x + 1) (set images x v) ≡ map (cycles_image cycles) (numbers_from 1 (x + 1))
+pub image_more : (cycles : List (List ℕ)) (images : List ℕ) (x v : ℕ) → x < length images → take x images ≡ map (disjoint_cycles_image cycles) (numbers_from 1 x) →
+    v ≡ disjoint_cycles_image cycles (x + 1) → take (x + 1) (set images x v) ≡ map (disjoint_cycles_image cycles) (numbers_from 1 (x + 1))
 image_more cycles images x v h e k =
     let next : 1 + x ≡ x + 1 = omega arith in
-    let more : map (cycles_image cycles) (numbers_from 1 (suc x)) ≡ map (cycles_image cycles) (numbers_from 1 x) ++ cycles_image cycles (x + 1) ∷ [] =
-    ap (map (cycles_image cycles)) (numbers-more 1 x) ∙ map-append (cycles_image cycles) (numbers_from 1 x) ((1 + x) ∷ []) ∙ ap (λ m. map (cycles_image cycles) (numbers_from 1 x) ++ cycles_image cycles m ∷ []) next in
+    let more : map (disjoint_cycles_image cycles) (numbers_from 1 (suc x)) ≡ map (disjoint_cycles_image cycles) (numbers_from 1 x) ++ disjoint_cycles_image cycles (x + 1) ∷ [] =
+    ap (map (disjoint_cycles_image cycles)) (numbers-more 1 x) ∙ map-append (disjoint_cycles_image cycles) (numbers_from 1 x) ((1 + x) ∷ []) ∙ ap (λ m. map (disjoint_cycles_image cycles) (numbers_from 1 x) ++ disjoint_cycles_image cycles m ∷ []) next in
     let up : x + 1 ≡ suc x = omega arith in
     ap (λ m. take m (set images x v)) up ∙ take-suc-set images x v h ∙ ap (λ l. l ++ v ∷ []) e
-    ∙ ap (λ m. map (cycles_image cycles) (numbers_from 1 x) ++ m ∷ []) k ∙ sym (ap (λ m. map (cycles_image cycles) (numbers_from 1 m)) up ∙ more)
+    ∙ ap (λ m. map (disjoint_cycles_image cycles) (numbers_from 1 x) ++ m ∷ []) k ∙ sym (ap (λ m. map (disjoint_cycles_image cycles) (numbers_from 1 m)) up ∙ more)

@@ -6,7 +6,7 @@ use Rattle.fr_syntax.specs.declared.keyword.Keyword.TheVariants as k
 use Rattle.fr_syntax.specs.declared.statement.Statement.TheVariants as st
 use Rattle.fr_syntax.specs.Tokens.{Lexeme}
 use Rattle.fr_syntax.specs.Grammar.{LineTree, AlphabetLine, GroupLine, LetLine, ShowLine, StatesLine, WreathLine, ClassLine, EqLine, ActLine, RayLine, OrderLine, NucleusLine, line_tokens, word}
-use Rattle.fr_syntax.specs.Values.{exponent_of}
+use Rattle.fr_syntax.specs.Values.{capped_value}
 use Rattle.fr_syntax.specs.LineValues.{line_read, line_value, line_notes}
 use Rattle.fr_syntax.specs.Lines.{Located, lexemes, code_of, tokens_of, bad_place, place_of, passes_nesting}
 use Rattle.fr_script.specs.declared.fault.LineFault.{LineFault}
@@ -102,7 +102,7 @@ alphabet-matches false true letters = tt
 alphabet-matches false false letters = tt
 
 said-matches : (d : ℕ) (is_first : Bool) (line : LineTree) → Matches (is_group_line line) (said is_first (line_value d line))
-said-matches d is_first (AlphabetLine text) = alphabet-matches (not is_first) (nat_lt (exponent_of text) 2 || nat_lt 8 (exponent_of text)) (exponent_of text)
+said-matches d is_first (AlphabetLine text) = alphabet-matches (not is_first) (nat_lt (capped_value text) 2 || nat_lt 8 (capped_value text)) (capped_value text)
 said-matches d is_first GroupLine = tt
 said-matches d is_first (LetLine name expr) = tt
 said-matches d is_first (ShowLine expr) = tt

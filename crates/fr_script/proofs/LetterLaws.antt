@@ -4,7 +4,7 @@ use Rattle.std.specs.Prelude.{nat_le}
 use Rattle.std.proofs.lemmas.Bool.{leb-true}
 use Rattle.std.proofs.lemmas.Grind.{flat_map-append}
 use Rattle.fr_model.specs.Words.{IsLetter, IsWord}
-use Rattle.fr_syntax.specs.Values.{exponent_of}
+use Rattle.fr_syntax.specs.Values.{capped_value}
 use Rattle.fr_syntax.specs.Recursions.{NumbersTree, OneNumber, MoreNumbers, CycleListTree, OneCycle, MoreCycles, CyclesTree, NoCycles, Cycles, RecursionTree, WithSections, WithBoth, WithCycles, is_letter_number, letter_of, numbers_value, cycle_list_value, cycles_value, refuse_number, refuse_numbers, refuse_cycle_list, refuse_cycles, recursion_value}
 use Rattle.fr_syntax.specs.declared.recursion.RecursionLine.{RecursionLine}
 use Rattle.fr_syntax.specs.declared.recursion.RecursionReading.TheVariants as r
@@ -28,7 +28,7 @@ letter_by d n false h k = cc
 
 letter_from : (d : ℕ) (text : List ℕ) → is_letter_number d text ≡ true → IsLetter d (letter_of d text)
 unfolding letter_of is_letter_number
-letter_from d text h = letter_by d (exponent_of text) _ refl h
+letter_from d text h = letter_by d (capped_value text) _ refl h
 
 number_letter : (d : ℕ) (text : List ℕ) (before : Bool) → refuse_number d text before ≡ false → (IsLetter d (letter_of d text)) × (before ≡ false)
 number_letter d text before h =

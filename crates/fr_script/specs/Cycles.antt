@@ -13,14 +13,15 @@ letter_after first (y ∷ z ∷ more) x = if y == x then Some z else letter_afte
 abbrev pub next_in_cycle : List ℕ → ℕ → Option ℕ
 next_in_cycle cycle x = letter_after (slice_index cycle 0) cycle x
 
--- the image of x: the next letter in its cycle, and x itself where it is in none
-abbrev pub cycles_image : List (List ℕ) → ℕ → ℕ
-cycles_image [] x = x
-cycles_image (cycle ∷ cycles) x = unwrap_or (next_in_cycle cycle x) (cycles_image cycles x)
+-- the image of x under cycles no two of which have a letter in common: the next letter in its cycle, and x itself where
+-- it is in none
+abbrev pub disjoint_cycles_image : List (List ℕ) → ℕ → ℕ
+disjoint_cycles_image [] x = x
+disjoint_cycles_image (cycle ∷ cycles) x = unwrap_or (next_in_cycle cycle x) (disjoint_cycles_image cycles x)
 
 -- the images of the letters of an alphabet
 abbrev pub cycles_permutation : ℕ → List (List ℕ) → List ℕ
-cycles_permutation d cycles = map (cycles_image cycles) (identity_permutation d)
+cycles_permutation d cycles = map (disjoint_cycles_image cycles) (identity_permutation d)
 
 -- the letters in cycles
 abbrev pub cycles_letters : List (List ℕ) → List ℕ

@@ -27,7 +27,8 @@ lines_of (c ∷ cs) = if c == 10 then [] ∷ lines_of cs else in_front c (lines_
 abbrev pub first_line : List ℕ → List ℕ
 first_line text = take_while (λ c. not (c == 10)) text
 
--- what the line n outside a block says, or its fault; a `group` line is no item by itself
+-- What the line n outside a block says, or its fault. It is asked for lines that are no `group` line, so the first case
+-- does not come.
 abbrev pub body_of : ℕ → LineOutcome → Body
 body_of n o.Group = b.Says (st.Group [])
 body_of n (o.Says statement) = b.Says statement

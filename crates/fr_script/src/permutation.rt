@@ -61,7 +61,7 @@ fn next_in_cycle(cycle: &[u8], x: u8) -> Option<u8>
 }
 
 fn image_of(cycles: &[Items<u8>], x: u8) -> u8
-    ensures { result ≡ spec.cycles_image cycles.now x }
+    ensures { result ≡ spec.disjoint_cycles_image cycles.now x }
 {
     for cycle in cycles {
         if let Some(y) = next_in_cycle(cycle.as_slice(), x) {

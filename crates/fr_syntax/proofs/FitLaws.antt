@@ -13,7 +13,7 @@ use Rattle.fr_syntax.specs.declared.tree.Atom.TheVariants as a
 use Rattle.fr_syntax.specs.declared.tree.Atom.TheOpen as layer
 use Rattle.fr_syntax.specs.declared.tree.Op.{Op}
 use Rattle.fr_syntax.specs.Grammar.{WordTree, Empty, Digits, ExprTree, Only, Times, FactorTree, Plain, With, OpTree, Power, Negative, Conjugate, Section, AtomTree, One, Simple, Atom2Tree, Named, Paren, Comm, RayTree, Periodic, Eventually, ExprsTree, OneExpr, MoreExprs, LineTree, AlphabetLine, GroupLine, LetLine, ShowLine, StatesLine, WreathLine, ClassLine, EqLine, ActLine, RayLine, OrderLine, NucleusLine}
-use Rattle.fr_syntax.specs.Values.{read_letters, letters_of, word_value, factors_of, factor_value, op_value, atom_value, atom2_value, expr_value, product, plain, with_op, exponent_of}
+use Rattle.fr_syntax.specs.Values.{read_letters, letters_of, word_value, factors_of, factor_value, op_value, atom_value, atom2_value, expr_value, product, plain, with_op, capped_value}
 use Rattle.fr_syntax.specs.LineValues.{ray_value, exprs_value, line_value}
 use Rattle.fr_syntax.specs.Fits.{AtomLayer, FitsExpr, expr_fits, FitsFactors, no_factors, more_factors, FitsAtom, atom_fits, FitsAtomLayer, one_fits, name_fits, paren_fits, comm_fits, FitsOps, no_ops, more_ops, FitsOp, power_fits, conj_fits, at_fits, FitsExprs, FitsRay, FitsLine}
 
@@ -114,8 +114,8 @@ mutual
   factor-fits d (With factor op) = with_op-fits d (factor_value d factor) (op_value d op) (factor-fits d factor) (op-fits d op)
 
   op-fits : (d : ℕ) (op : OpTree) → FitsOp d (op_value d op)
-  op-fits d (Power text) = power_fits false (exponent_of text)
-  op-fits d (Negative text) = power_fits true (exponent_of text)
+  op-fits d (Power text) = power_fits false (capped_value text)
+  op-fits d (Negative text) = power_fits true (capped_value text)
   op-fits d (Conjugate atom) = conj_fits (atom2_value d atom) (atom2-fits d atom)
   op-fits d (Section w) = at_fits (word_value d w) (word_value-word d w)
 

@@ -21,7 +21,7 @@ use Rattle.fr_syntax.specs.Tokens.{Lexeme, Name, Number, Sign}
 use Rattle.fr_syntax.specs.Lines.{lexeme}
 use Rattle.fr_syntax.specs.Keywords.{keyword_of}
 use Rattle.fr_syntax.specs.Grammar.{ExprTree, ExprsTree, LineTree, line_tokens}
-use Rattle.fr_syntax.specs.Values.{letters_of, expr_value, note_expr, note_digits}
+use Rattle.fr_syntax.specs.Values.{no_notes, letters_of, expr_value, note_expr, note_digits}
 use Rattle.fr_syntax.specs.Steps as e
 use Rattle.fr_syntax.specs.LineValues.{exprs_value, note_exprs, line_value, line_notes, line_read, Reads}
 use Rattle.fr_syntax.specs.LineSteps as spec
@@ -49,9 +49,9 @@ goal_value d ForOrder = g.Order
 goal_value d (ForNucleus exprs) = g.Nucleus (list_value d exprs)
 
 abbrev pub goal_notes : ℕ → TGoal → Notes
-goal_notes d (ForSecond left) = note_expr d left e.none
-goal_notes d (ForNucleus (Some exprs)) = note_exprs d exprs e.none
-goal_notes d _ = e.none
+goal_notes d (ForSecond left) = note_expr d left no_notes
+goal_notes d (ForNucleus (Some exprs)) = note_exprs d exprs no_notes
+goal_notes d _ = no_notes
 
 abbrev pub before_letters : ℕ → Option (List ℕ) → List ℕ
 before_letters d None = []
@@ -67,10 +67,10 @@ spot_value d AtAlphabet = sp.AlphabetNumber
 spot_value d AtLetName = sp.LetName
 spot_value d (AtLetEquals name) = sp.LetEquals name
 spot_value d (InExpr goal reader) = sp.Expr (goal_value d goal) (reader_value d (goal_notes d goal) reader)
-spot_value d (AtRayOpen expr before) = sp.RayOpen (expr_value d expr) (letters_of d before) (note_digits d before (note_expr d expr e.none))
-spot_value d (AtRayPeriod expr before) = sp.RayPeriod (expr_value d expr) (before_letters d before) (before_notes d before (note_expr d expr e.none))
+spot_value d (AtRayOpen expr before) = sp.RayOpen (expr_value d expr) (letters_of d before) (note_digits d before (note_expr d expr no_notes))
+spot_value d (AtRayPeriod expr before) = sp.RayPeriod (expr_value d expr) (before_letters d before) (before_notes d before (note_expr d expr no_notes))
 spot_value d (AtRayClose expr before period) =
-    sp.RayClose (expr_value d expr) (before_letters d before) (letters_of d period) (note_digits d period (before_notes d before (note_expr d expr e.none)))
+    sp.RayClose (expr_value d expr) (before_letters d before) (letters_of d period) (note_digits d period (before_notes d before (note_expr d expr no_notes)))
 spot_value d (Done line) = sp.Whole (line_value d line) (line_notes d line)
 
 abbrev pub after_value : ℕ → Option TSpot → Option Spot
@@ -93,7 +93,7 @@ same_keyword d (Some k.Order) = refl
 same_keyword d (Some k.Nucleus) = refl
 
 same_fresh : (d : ℕ) (left : ExprTree) (after : TStep) →
-    spec.on_fresh (g.Second (expr_value d left)) (step_value d (note_expr d left e.none) after) ≡ after_value d (fresh_tree (ForSecond left) after)
+    spec.on_fresh (g.Second (expr_value d left)) (step_value d (note_expr d left no_notes) after) ≡ after_value d (fresh_tree (ForSecond left) after)
 same_fresh d left (Next reader) = refl
 same_fresh d left (Ends expr) = refl
 same_fresh d left Stuck = refl
@@ -101,7 +101,7 @@ same_fresh d left Stuck = refl
 same_follow : (d : ℕ) (goal : TGoal) (expr : ExprTree) (token : Lexeme) →
     spec.follow d (goal_value d goal) (expr_value d expr) (note_expr d expr (goal_notes d goal)) token ≡ after_value d (follow_tree goal expr token)
 same_follow d ForFirst expr token =
-    ap (spec.on_fresh (g.Second (expr_value d expr))) (kept d (note_expr d expr e.none) begun_tree token)
+    ap (spec.on_fresh (g.Second (expr_value d expr))) (kept d (note_expr d expr no_notes) begun_tree token)
     ∙ same_fresh d expr (step_tree begun_tree token)
 same_follow d ForAct expr (Number text) = refl
 same_follow d ForAct expr (Sign m.Minus) = refl

@@ -12,7 +12,7 @@ use Rattle.fr_syntax.specs.declared.tree.Op.TheVariants as o
 use Rattle.fr_syntax.specs.declared.token.Mark.TheVariants as m
 use Rattle.fr_syntax.specs.Tokens.{Lexeme, Sign, Number}
 use Rattle.fr_syntax.specs.Grammar.{WordTree, Empty, Digits, ExprTree, Only, Times, FactorTree, Plain, With, OpTree, Power, Negative, Conjugate, Section, AtomTree, One, Simple, Atom2Tree, Named, Paren, Comm, RayTree, Periodic, Eventually, ExprsTree, OneExpr, MoreExprs, LineTree, AlphabetLine, GroupLine, LetLine, ShowLine, StatesLine, WreathLine, ClassLine, EqLine, ActLine, RayLine, OrderLine, NucleusLine, line_tokens, spell_exprs, spell_ray, spell_word, spell_expr, spell_factor, spell_op, spell_atom, spell_atom2}
-use Rattle.fr_syntax.specs.Values.{factors_of, factor_value, op_value, atom_value, atom2_value, word_value, product, with_op, exponent_of, expr_value}
+use Rattle.fr_syntax.specs.Values.{factors_of, factor_value, op_value, atom_value, atom2_value, word_value, product, with_op, capped_value, expr_value}
 use Rattle.fr_syntax.specs.LineValues.{exprs_value, line_value}
 use Rattle.fr_syntax.specs.Sizes.{atom_layer_size, op_layer_size, expr_layer_size, factor_layer_size, expr_size, factor_size, atom_size, op_size, exprs_size, line_size}
 
@@ -82,8 +82,8 @@ mutual
       omega (arith, with_op-size (factor_value d factor) (op_value d op), op-size d op rest, factor-size d factor (spell_op op rest))
 
   op-size : (d : ℕ) (op : OpTree) (rest : List Lexeme) → op_size (op_value d op) + length rest ≤ length (spell_op op rest)
-  op-size d (Power text) rest = omega (arith, op_size-Power false (exponent_of text))
-  op-size d (Negative text) rest = omega (arith, op_size-Power true (exponent_of text))
+  op-size d (Power text) rest = omega (arith, op_size-Power false (capped_value text))
+  op-size d (Negative text) rest = omega (arith, op_size-Power true (capped_value text))
   op-size d (Conjugate atom) rest = omega (arith, op_size-Conj (atom2_value d atom), atom2-size d atom rest)
   op-size d (Section Empty) rest = omega (arith, op_size-At (word_value d Empty))
   op-size d (Section (Digits text)) rest = omega (arith, op_size-At (word_value d (Digits text)))

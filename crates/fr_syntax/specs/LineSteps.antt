@@ -21,7 +21,7 @@ use Rattle.fr_syntax.specs.declared.line.LineReading.{LineReading}
 use Rattle.fr_syntax.specs.declared.line.LineReading.TheVariants as r
 use Rattle.fr_syntax.specs.Tokens.{Lexeme, Name, Number, Sign}
 use Rattle.fr_syntax.specs.Keywords.{keyword_of}
-use Rattle.fr_syntax.specs.Values.{exponent_of, letters_of, note_power, note_digits}
+use Rattle.fr_syntax.specs.Values.{no_notes, capped_value, letters_of, note_power, note_digits}
 use Rattle.fr_syntax.specs.Steps as e
 
 -- the line is whole, and says this
@@ -30,13 +30,13 @@ says statement notes = Some (sp.Whole (l.Says statement) notes)
 
 -- an expression comes next
 abbrev pub begin : Goal → Option Spot
-begin goal = Some (sp.Expr goal (e.begun e.none))
+begin goal = Some (sp.Expr goal (e.begun no_notes))
 
 -- what comes after a first word
 abbrev pub keyword_step : Option Keyword → Option Spot
 keyword_step None = None
 keyword_step (Some k.Alphabet) = Some sp.AlphabetNumber
-keyword_step (Some k.Group) = Some (sp.Whole l.Group e.none)
+keyword_step (Some k.Group) = Some (sp.Whole l.Group no_notes)
 keyword_step (Some k.Let) = Some sp.LetName
 keyword_step (Some k.Show) = begin g.Show
 keyword_step (Some k.States) = begin g.States
@@ -68,7 +68,7 @@ ray_step d expr notes _ = None
 
 -- the bound of `order`
 abbrev pub order_step : Expr → Notes → Lexeme → Option Spot
-order_step expr notes (Number text) = says (st.Order expr (exponent_of text)) (note_power text notes)
+order_step expr notes (Number text) = says (st.Order expr (capped_value text)) (note_power text notes)
 order_step expr notes _ = None
 
 -- the comma in a list of expressions
@@ -108,7 +108,7 @@ close_ray expr before period notes _ = None
 -- one token
 abbrev pub take : ℕ → Spot → Lexeme → Option Spot
 take d sp.Keyword (Name text) = keyword_step (keyword_of text)
-take d sp.AlphabetNumber (Number text) = Some (sp.Whole (l.Alphabet (exponent_of text)) e.none)
+take d sp.AlphabetNumber (Number text) = Some (sp.Whole (l.Alphabet (capped_value text)) no_notes)
 take d sp.LetName (Name name) = Some (sp.LetEquals name)
 take d (sp.LetEquals name) (Sign m.Equals) = begin (g.Let name)
 take d (sp.Expr goal reader) token = expr_step d goal reader token

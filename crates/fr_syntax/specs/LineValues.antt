@@ -11,8 +11,7 @@ use Rattle.fr_syntax.specs.declared.line.LineReading.{LineReading}
 use Rattle.fr_syntax.specs.declared.line.LineReading.TheVariants as r
 use Rattle.fr_syntax.specs.Tokens.{Lexeme}
 use Rattle.fr_syntax.specs.Grammar.{RayTree, Periodic, Eventually, ExprsTree, OneExpr, MoreExprs, LineTree, AlphabetLine, GroupLine, LetLine, ShowLine, StatesLine, WreathLine, ClassLine, EqLine, ActLine, RayLine, OrderLine, NucleusLine, line_tokens}
-use Rattle.fr_syntax.specs.Values.{exponent_of, letters_of, note_power, note_digits, note_word, word_value, expr_value, note_expr}
-use Rattle.fr_syntax.specs.Steps.{none}
+use Rattle.fr_syntax.specs.Values.{no_notes, capped_value, letters_of, note_power, note_digits, note_word, word_value, expr_value, note_expr}
 use Rattle.fr_syntax.specs.Faults.{IsFaultAt}
 
 -- the words of a ray
@@ -27,7 +26,7 @@ exprs_value d (MoreExprs exprs expr) = exprs_value d exprs ++ expr_value d expr 
 
 -- what a line says
 abbrev pub line_value : ℕ → LineTree → Line
-line_value d (AlphabetLine text) = l.Alphabet (exponent_of text)
+line_value d (AlphabetLine text) = l.Alphabet (capped_value text)
 line_value d GroupLine = l.Group
 line_value d (LetLine name expr) = l.Says (st.Let name (expr_value d expr))
 line_value d (ShowLine expr) = l.Says (st.Show (expr_value d expr))
@@ -37,7 +36,7 @@ line_value d (ClassLine expr) = l.Says (st.ClassOf (expr_value d expr))
 line_value d (EqLine left right) = l.Says (st.Eq (expr_value d left) (expr_value d right))
 line_value d (ActLine expr word) = l.Says (st.Act (expr_value d expr) (word_value d word))
 line_value d (RayLine expr ray) = l.Says (st.RayOf (expr_value d expr) (ray_value d ray))
-line_value d (OrderLine expr text) = l.Says (st.Order (expr_value d expr) (exponent_of text))
+line_value d (OrderLine expr text) = l.Says (st.Order (expr_value d expr) (capped_value text))
 line_value d (NucleusLine exprs) = l.Says (st.NucleusOf (exprs_value d exprs))
 
 -- the digits of a ray that are no letters
@@ -52,18 +51,18 @@ note_exprs d (MoreExprs exprs expr) notes = note_expr d expr (note_exprs d exprs
 
 -- what is refused in a line
 abbrev pub line_notes : ℕ → LineTree → Notes
-line_notes d (AlphabetLine text) = none
-line_notes d GroupLine = none
-line_notes d (LetLine name expr) = note_expr d expr none
-line_notes d (ShowLine expr) = note_expr d expr none
-line_notes d (StatesLine expr) = note_expr d expr none
-line_notes d (WreathLine expr) = note_expr d expr none
-line_notes d (ClassLine expr) = note_expr d expr none
-line_notes d (EqLine left right) = note_expr d right (note_expr d left none)
-line_notes d (ActLine expr word) = note_word d word (note_expr d expr none)
-line_notes d (RayLine expr ray) = note_ray d ray (note_expr d expr none)
-line_notes d (OrderLine expr text) = note_power text (note_expr d expr none)
-line_notes d (NucleusLine exprs) = note_exprs d exprs none
+line_notes d (AlphabetLine text) = no_notes
+line_notes d GroupLine = no_notes
+line_notes d (LetLine name expr) = note_expr d expr no_notes
+line_notes d (ShowLine expr) = note_expr d expr no_notes
+line_notes d (StatesLine expr) = note_expr d expr no_notes
+line_notes d (WreathLine expr) = note_expr d expr no_notes
+line_notes d (ClassLine expr) = note_expr d expr no_notes
+line_notes d (EqLine left right) = note_expr d right (note_expr d left no_notes)
+line_notes d (ActLine expr word) = note_word d word (note_expr d expr no_notes)
+line_notes d (RayLine expr ray) = note_ray d ray (note_expr d expr no_notes)
+line_notes d (OrderLine expr text) = note_power text (note_expr d expr no_notes)
+line_notes d (NucleusLine exprs) = note_exprs d exprs no_notes
 
 -- both
 abbrev pub line_read : ℕ → LineTree → ReadLine

@@ -87,7 +87,7 @@ lexemes tokens = map (λ token. token.lexeme) tokens
 unfoldable pub bad_place : List ℕ → Option ℕ
 bad_place code = option_map (λ k. k + 1) (position (λ c. not (is_allowed c)) code)
 
--- the place of the token with the index k, or one past the last byte of the last token
+-- the place of the token with the index k, or one past the last byte of the last token; without tokens, the first place
 abbrev pub place_of : List Located → ℕ → ℕ
 place_of [] k = 1
 place_of (token ∷ []) zero = token.place

@@ -5,7 +5,7 @@ use Rattle.fr_syntax.specs.declared.statement.SecName.{SecName}
 use Rattle.fr_syntax.specs.declared.recursion.RecursionLine.{RecursionLine}
 use Rattle.fr_syntax.specs.Tokens.{Lexeme, Name, Number, Sign}
 use Rattle.fr_syntax.specs.Grammar.{one}
-use Rattle.fr_syntax.specs.Values.{exponent_of}
+use Rattle.fr_syntax.specs.Values.{capped_value}
 
 -- secname = NAME [ "^" "-" "1" ]
 pub data SecNameTree : Type 0 where
@@ -115,11 +115,11 @@ secs_value (MoreSecs secs sec) = secs_value secs ++ sec_value sec ∷ []
 
 -- a number that is no letter is refused, and then its value tells nothing
 unfoldable pub is_letter_number : ℕ → List ℕ → Bool
-is_letter_number d text = nat_le 1 (exponent_of text) && nat_le (exponent_of text) d
+is_letter_number d text = nat_le 1 (capped_value text) && nat_le (capped_value text) d
 
 -- the letter of a number
 unfoldable pub letter_of : ℕ → List ℕ → ℕ
-letter_of d text = if is_letter_number d text then exponent_of text else 0
+letter_of d text = if is_letter_number d text then capped_value text else 0
 
 -- the letters of a cycle
 abbrev pub numbers_value : ℕ → NumbersTree → List ℕ

@@ -19,7 +19,7 @@ use Rattle.fr_syntax.specs.declared.reader.ReadExpr.{ReadExpr}
 use Rattle.fr_syntax.specs.declared.reader.Step.{Step}
 use Rattle.fr_syntax.specs.declared.reader.Step.TheVariants as s
 use Rattle.fr_syntax.specs.Tokens.{Lexeme, Name, Number, Sign}
-use Rattle.fr_syntax.specs.Values.{with_op, plain, product, exponent_of, letters_of, note_power, note_digits}
+use Rattle.fr_syntax.specs.Values.{with_op, plain, product, capped_value, letters_of, note_power, note_digits}
 
 -- the expression goes on
 abbrev pub next : List Frame → Place → Notes → Step
@@ -43,7 +43,7 @@ abbrev pub number_step : List Frame → Hole → Notes → List ℕ → Step
 number_step frames (h.Start factors) notes text =
     if is_one text then next frames (p.After factors (plain a.One)) notes else s.Stuck
 number_step frames (h.Conj factors factor) notes text =
-    next frames (p.After factors (with_op factor (o.Power false (exponent_of text)))) (note_power text notes)
+    next frames (p.After factors (with_op factor (o.Power false (capped_value text)))) (note_power text notes)
 
 -- the `-` of a power
 abbrev pub minus_step : List Frame → Hole → Notes → Step
@@ -62,7 +62,7 @@ atom_step frames hole notes _ = s.Stuck
 -- the number of a negative power
 abbrev pub negative_step : List Frame → List Factor → Factor → Notes → Lexeme → Step
 negative_step frames factors factor notes (Number text) =
-    next frames (p.After factors (with_op factor (o.Power true (exponent_of text)))) (note_power text notes)
+    next frames (p.After factors (with_op factor (o.Power true (capped_value text)))) (note_power text notes)
 negative_step frames factors factor notes _ = s.Stuck
 
 -- the word of a section
@@ -107,10 +107,6 @@ step d reader token = place_step d reader.frames reader.place reader.notes token
 -- before the first token
 abbrev pub begun : Notes → Reader
 begun notes = record { frames = []; place = p.Atom (h.Start []); notes = notes }
-
--- nothing is refused
-abbrev pub none : Notes
-none = record { not_a_letter = false; power_passed = false }
 
 -- a whole expression, where no bracket is open
 abbrev pub finish_place : List Frame → Place → Notes → Option ReadExpr

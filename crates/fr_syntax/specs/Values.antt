@@ -11,21 +11,21 @@ use Rattle.fr_syntax.specs.declared.notes.Notes.{Notes}
 use Rattle.fr_syntax.specs.Grammar.{WordTree, Empty, Digits, ExprTree, Only, Times, FactorTree, Plain, With, OpTree, Power, Negative, Conjugate, Section, AtomTree, One, Simple, Atom2Tree, Named, Paren, Comm}
 
 -- the number that the digits write
-abbrev pub decimal_from : ℕ → List ℕ → ℕ
-decimal_from n [] = n
-decimal_from n (c ∷ cs) = decimal_from (10 * n + (c - 48)) cs
+abbrev pub digits_value_from : ℕ → List ℕ → ℕ
+digits_value_from n [] = n
+digits_value_from n (c ∷ cs) = digits_value_from (10 * n + (c - 48)) cs
 
 -- the number of a text of digits
-unfoldable pub decimal : List ℕ → ℕ
-decimal text = decimal_from 0 text
+unfoldable pub digits_value : List ℕ → ℕ
+digits_value text = digits_value_from 0 text
 
--- an exponent above the limit is refused, and then its value tells nothing
-unfoldable pub exponent_of : List ℕ → ℕ
-exponent_of text = min (decimal text) 1000001
+-- the number of a text of digits, or 1,000,001 where it is greater: no use of a number in the language tells these apart
+unfoldable pub capped_value : List ℕ → ℕ
+capped_value text = min (digits_value text) 1000001
 
--- whether an exponent is above 1,000,000
+-- whether a number is above 1,000,000
 unfoldable pub passes_limit : List ℕ → Bool
-passes_limit text = nat_lt 1000000 (decimal text)
+passes_limit text = nat_lt 1000000 (digits_value text)
 
 -- a word with a digit that is no letter is refused, and then its value tells nothing
 abbrev pub read_letters : {E : Type 0} → Result (List ℕ) E → List ℕ
@@ -72,8 +72,8 @@ abbrev mutual
   factor_value d (With factor op) = with_op (factor_value d factor) (op_value d op)
 
   pub op_value : ℕ → OpTree → Op
-  op_value d (Power text) = o.Power false (exponent_of text)
-  op_value d (Negative text) = o.Power true (exponent_of text)
+  op_value d (Power text) = o.Power false (capped_value text)
+  op_value d (Negative text) = o.Power true (capped_value text)
   op_value d (Conjugate atom) = o.Conj (atom2_value d atom)
   op_value d (Section word) = o.At (word_value d word)
 
@@ -89,6 +89,10 @@ abbrev mutual
 -- what an expression says
 abbrev pub expr_value : ℕ → ExprTree → Expr
 expr_value d expr = product (factors_of d expr)
+
+-- nothing is refused
+abbrev pub no_notes : Notes
+no_notes = record { not_a_letter = false; power_passed = false }
 
 -- What is refused in a tree, after what was refused before it.
 abbrev pub note_power : List ℕ → Notes → Notes

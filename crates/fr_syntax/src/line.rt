@@ -22,7 +22,7 @@ use std::alloc::Global;
 /// What a line outside a block says by itself.
 #[derive(Drop)]
 pub enum Line {
-    /// The alphabet's number of letters, whatever it is.
+    /// The number of an `alphabet` line, which need not be in range, up to one more than the greatest exponent.
     Alphabet(u32),
     /// The first line of a block.
     Group,

@@ -2,18 +2,18 @@
 
 ghost use Rattle.std.specs.Prelude.{◌≡◌, IfOk, not, true, []};
 ghost use Rattle.fr_syntax.specs.Recursions.{letter_of, is_letter_number};
-ghost use Rattle.fr_syntax.specs.Values.{decimal, exponent_of, passes_limit, letters_of, has_bad_letter};
+ghost use Rattle.fr_syntax.specs.Values.{digits_value, capped_value, passes_limit, letters_of, has_bad_letter};
 ghost use Rattle.fr_syntax.specs.Steps.{is_one};
 
 use fr_alphabet::{Alphabet, NoMemory, Word, WordFault};
 use std::alloc::Global;
 
-/// The greatest exponent.
+/// The greatest exponent, and the greatest bound of an order.
 pub const POWER_LIMIT: u32 = 1_000_000;
 
 /// The value of digits, or one more than the limit where it is greater than the limit.
 pub fn exponent(digits: &[u8]) -> u32
-    ensures { result ≡ exponent_of digits.now }
+    ensures { result ≡ capped_value digits.now }
 {
     let mut value: u32 = 0;
     for digit in digits {
@@ -23,7 +23,7 @@ pub fn exponent(digits: &[u8]) -> u32
 }
 
 /// Whether the value of digits is greater than the limit.
-#[tactic(auto, using(crate::proofs::NumberLaws::capped_passes), unfolding(crate::specs::Values::exponent_of, crate::specs::Values::passes_limit))]
+#[tactic(auto, using(crate::proofs::NumberLaws::capped_passes), unfolding(crate::specs::Values::capped_value, crate::specs::Values::passes_limit))]
 pub fn passes(digits: &[u8]) -> bool
     ensures { result ≡ passes_limit digits.now }
 {

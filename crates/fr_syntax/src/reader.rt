@@ -76,7 +76,7 @@ pub fn note_power(notes: Notes, digits: &[u8]) -> Notes
 }
 
 fn with_power(factor: Factor, negative: bool, digits: &[u8]) -> Result<Factor, NoMemory>
-    ensures { IfOk result (λ f. f ≡ values.with_op factor (Op.Power negative (values.exponent_of digits.now))) }
+    ensures { IfOk result (λ f. f ≡ values.with_op factor (Op.Power negative (values.capped_value digits.now))) }
 {
     with_op(
         factor,

@@ -1,6 +1,6 @@
 use Rattle.std.proofs.Common.{◌≡◌, ◌≤◌, sym, ◌∙◌, ap, take, map, length-set, arith, ℕ, List, subst, true, false}
 use Rattle.fr_model.specs.Permutations.{IsPermutation, numbers_from}
-use Rattle.fr_script.specs.Cycles.{cycles_image, cycles_permutation}
+use Rattle.fr_script.specs.Cycles.{disjoint_cycles_image, cycles_permutation}
 use Rattle.fr_script.proofs.CycleLaws.{image_more, IsPermutation-cycles}
 use Rattle.fr_script.proofs.permutation.cycles_permutation.Goals as goal
 
@@ -12,11 +12,11 @@ loop-x-preserved c = record {
 }
 
 -- all images are written
-all_written : (d a x : ℕ) (images : List ℕ) (cycles : List (List ℕ)) → d ≡ a → d ≤ x → x ≤ d → take x images ≡ map (cycles_image cycles) (numbers_from 1 x) →
+all_written : (d a x : ℕ) (images : List ℕ) (cycles : List (List ℕ)) → d ≡ a → d ≤ x → x ≤ d → take x images ≡ map (disjoint_cycles_image cycles) (numbers_from 1 x) →
     take d images ≡ cycles_permutation a cycles
 all_written d a x images cycles e f g h =
     let here : x ≡ d = omega arith in
-    ap (λ n. take n images) (sym here) ∙ h ∙ ap (λ n. map (cycles_image cycles) (numbers_from 1 n)) (here ∙ e)
+    ap (λ n. take n images) (sym here) ∙ h ∙ ap (λ n. map (disjoint_cycles_image cycles) (numbers_from 1 n)) (here ∙ e)
 
 pub unreachable-requires : goal.unreachable-requires
 unreachable-requires c =

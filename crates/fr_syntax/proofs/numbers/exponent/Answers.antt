@@ -1,6 +1,6 @@
 use Rattle.std.proofs.Common.{arith, ◌∙◌, ◌≡◌, drop, min, []}
 use Rattle.std.proofs.lemmas.List.{drop_all}
-use Rattle.fr_syntax.specs.Values.{decimal, exponent_of}
+use Rattle.fr_syntax.specs.Values.{digits_value, capped_value}
 use Rattle.fr_syntax.proofs.NumberLaws.{capped_digit}
 use Rattle.fr_syntax.proofs.numbers.exponent.Goals as goal
 
@@ -12,7 +12,7 @@ loop-digit-preserved c = record {
 }
 
 pub returns : goal.returns
-unfolding exponent_of decimal
+unfolding capped_value digits_value
 returns c =
     let gone : drop c.loop-digit.digit-index c.args.digits.now ≡ [] = drop_all _ _ c.loop-digit-test.false in
     let kept : c.loop-digit.value ≡ min c.loop-digit.value 1000001 = omega arith in
