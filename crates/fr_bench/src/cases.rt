@@ -1,0 +1,138 @@
+//! Cases, as they are written.
+
+ghost use Rattle.std.specs.Prelude.{ℕ, ◌≤◌, IfOk};
+
+use crate::answer::{Answer, Stop};
+use crate::codes::{list, scattered};
+use crate::cycles::{cycle, half_cycle};
+use crate::partitions::{chain, count_classes, drawn, halves, reversed};
+use crate::products::multiply;
+use crate::separations::tell_apart;
+use fr_machine::Machine;
+use std::alloc::Global;
+use std::str::SplitWhitespace;
+
+/// Runs a case. It is a name, its parts, and how often the call is made, where that is not once; numbers are 1 to 65,536.
+///
+/// - `classes chain N`, `classes reversed N`, `classes drawn N`, `classes halves N`: the classes of N rows.
+/// - `product P Q`: of cycles of P and Q states that both letters go along, at most 1,024.
+/// - `grid P Q`: of cycles of P and Q states, at most 1,024, of which one letter goes along the one and the other along the
+///   other, so that there are P Q pairs.
+/// - `canon D N`: the code of an element of N states, at most 1,024, over D letters, 2 to 8.
+/// - `separate N`: cycles of N and N - 1 states, at most 1,024, that agree on all words of less than 2 N - 2 letters.
+/// - `wide N`: the factors of `grid N N`, of which about half the pairs are met.
+///
+/// `Usage` is the answer to any other words.
+pub fn measure(alloc: Global, case: &str) -> Result<Answer, Stop> {
+    let mut parts = case.split_whitespace();
+    let name = parts.next().ok_or(Stop::Usage)?;
+    if name == "classes" {
+        measure_classes(alloc, parts)
+    } else if name == "product" {
+        measure_product(alloc, parts)
+    } else if name == "grid" {
+        measure_grid(alloc, parts)
+    } else if name == "canon" {
+        measure_canon(alloc, parts)
+    } else if name == "separate" {
+        measure_separate(alloc, parts)
+    } else if name == "wide" {
+        measure_wide(alloc, parts)
+    } else {
+        Err(Stop::Usage)
+    }
+}
+
+fn measure_classes(alloc: Global, mut parts: SplitWhitespace<'_>) -> Result<Answer, Stop> {
+    let kind = parts.next().ok_or(Stop::Usage)?;
+    let count = number(&mut parts)?;
+    let machine = machine(alloc, kind, count)?;
+    count_classes(alloc, &machine, times(&mut parts)?)
+}
+
+// The machine of a kind.
+fn machine(alloc: Global, kind: &str, count: u32) -> Result<Machine, Stop>
+    requires { count ≤ 65536 }
+{
+    if kind == "chain" {
+        chain(alloc, count)
+    } else if kind == "reversed" {
+        reversed(alloc, count)
+    } else if kind == "drawn" {
+        drawn(alloc, count)
+    } else if kind == "halves" {
+        halves(alloc, count)
+    } else {
+        Err(Stop::Usage)
+    }
+}
+
+fn measure_product(alloc: Global, mut parts: SplitWhitespace<'_>) -> Result<Answer, Stop> {
+    let left = number(&mut parts)?;
+    let right = number(&mut parts)?;
+    let a = cycle(alloc, left, left - 1)?;
+    let b = cycle(alloc, right, right - 1)?;
+    multiply(alloc, &a, &b, times(&mut parts)?)
+}
+
+fn measure_grid(alloc: Global, mut parts: SplitWhitespace<'_>) -> Result<Answer, Stop> {
+    let left = number(&mut parts)?;
+    let right = number(&mut parts)?;
+    let a = half_cycle(alloc, left, true)?;
+    let b = half_cycle(alloc, right, false)?;
+    multiply(alloc, &a, &b, times(&mut parts)?)
+}
+
+fn measure_canon(alloc: Global, mut parts: SplitWhitespace<'_>) -> Result<Answer, Stop> {
+    let letters = number(&mut parts)?;
+    let count = number(&mut parts)?;
+    let element = scattered(alloc, letters.min(9) as u8, count)?;
+    list(alloc, &element, times(&mut parts)?)
+}
+
+fn measure_separate(alloc: Global, mut parts: SplitWhitespace<'_>) -> Result<Answer, Stop> {
+    let count = number(&mut parts)?;
+    if count < 2 {
+        return Err(Stop::Usage);
+    }
+    let a = cycle(alloc, count, count - 2)?;
+    let b = cycle(alloc, count - 1, count - 2)?;
+    tell_apart(alloc, &a, &b, times(&mut parts)?)
+}
+
+fn measure_wide(alloc: Global, mut parts: SplitWhitespace<'_>) -> Result<Answer, Stop> {
+    let count = number(&mut parts)?;
+    let a = half_cycle(alloc, count, true)?;
+    let b = half_cycle(alloc, count, false)?;
+    tell_apart(alloc, &a, &b, times(&mut parts)?)
+}
+
+// The next part as a number.
+fn number(parts: &mut SplitWhitespace<'_>) -> Result<u32, Stop>
+    ensures least { IfOk result (λ n. 1 ≤ n) }
+    ensures most { IfOk result (λ n. n ≤ 65536) }
+{
+    match parts.next() {
+        Some(part) => in_range(part),
+        None => Err(Stop::Usage),
+    }
+}
+
+// How often, which is once where nothing is said.
+fn times(parts: &mut SplitWhitespace<'_>) -> Result<u32, Stop> {
+    match parts.next() {
+        Some(part) => in_range(part),
+        None => Ok(1),
+    }
+}
+
+// A part as a number.
+fn in_range(part: &str) -> Result<u32, Stop>
+    ensures least { IfOk result (λ n. 1 ≤ n) }
+    ensures most { IfOk result (λ n. n ≤ 65536) }
+{
+    match part.parse::<u32>() {
+        Ok(number) if 1 <= number && number <= 65536 => Ok(number),
+        _ => Err(Stop::Usage),
+    }
+}
