@@ -1,0 +1,5 @@
+pub mod Rays
+pub mod Forms
+pub mod Reading
+pub mod Writing
+pub mod Laws
