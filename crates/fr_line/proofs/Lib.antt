@@ -1,0 +1,4 @@
+pub mod Totals
+pub mod Weaving
+pub mod Trees
+pub mod Standing
