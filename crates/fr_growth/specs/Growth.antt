@@ -1,0 +1,37 @@
+-- The class of growth of a term with its certificate, and the numbers that a certificate tells.
+use Rattle.std.specs.Prelude.{ℕ, ◌≡◌, ◌+◌, ◌*◌, ◌^◌, ◌≤◌, ◌↔◌, List, [], ◌∷◌, length}
+use Rattle.fr_model.specs.Terms.{Term}
+use Rattle.fr_model.specs.Activity.{IsActivity, Link, IsChain, HasDegree}
+
+-- t has degree k, and the chain shows it
+pub record IsPolynomialBy (d : ℕ) (t : Term) (k : ℕ) (links : List Link) : Type 0 where
+  pub degree : HasDegree d t k
+  pub count : length links ≡ k + 1
+  pub chain : IsChain d t links
+
+-- the letters on the ways from link to link, and the product of the lengths of the cycles
+abbrev pub ways : List Link → ℕ
+ways [] = 0
+ways (l ∷ ls) = length l.at + ways ls
+
+abbrev pub rounds : List Link → ℕ
+rounds [] = 1
+rounds (l ∷ ls) = length l.back * rounds ls
+
+-- the count of active words of each length is one number
+abbrev pub IsCounted : ℕ → Term → Type 0
+IsCounted d t = (n : ℕ) → (c : ℕ) × IsActivity d n t c
+
+-- what a chain tells of the counts of a term with so many sections
+pub record HasPolynomialNumbers (d size : ℕ) (t : Term) (k : ℕ) (links : List Link) : Type 0 where
+  pub counted : IsCounted d t
+  pub most : (n c : ℕ) → IsActivity d n t c → c ≤ (d + 1) ^ size * (n + 1) ^ k
+  pub least : (j c : ℕ) → IsActivity d (ways links + (k + 1) * j * rounds links) t c → (j + 1) ^ k ≤ c
+
+pub record HasExponentialNumbers (d : ℕ) (t : Term) (at u : List ℕ) : Type 0 where
+  pub counted : IsCounted d t
+  pub least : (j c : ℕ) → IsActivity d (length at + j * length u) t c → 2 ^ j ≤ c
+
+pub record HasFinitaryNumbers (d : ℕ) (t : Term) (depth : ℕ) : Type 0 where
+  pub counted : IsCounted d t
+  pub none : (n : ℕ) → IsActivity d n t 0 ↔ (depth ≤ n)

@@ -1,0 +1,12 @@
+pub mod Walks
+pub mod Growth
+pub mod Bits
+pub mod Components
+pub mod Knots
+pub mod Levels
+pub mod Tables
+pub mod Chains
+pub mod Layers
+pub mod Doubling
+pub mod Classes
+pub mod Texts
