@@ -3,6 +3,7 @@ pub mod CleanCountLaws
 pub mod FindLaws
 pub mod FixedLaws
 pub mod InverseLaws
+pub mod LimitLaws
 pub mod MarkLaws
 pub mod MemberLaws
 pub mod OrderLaws

@@ -209,20 +209,22 @@ module _ (d : ℕ) (rows : List Row) (m : IsMachine d rows) where
       in
       alike_by_relation d qs qs (Related of) g g step s0 t0 (a0, b0, e0)
 
-  pub AreClasses-from : (p : Partition) (of : List ℕ) → IsRefining rows p → IsQueued p [] → IsNumbering p.of.items of → AreClasses rows of
-  AreClasses-from p of h q n =
-      let clean : (s : ℕ) → s < length rows → flag_at p s ≡ false = λ s l. go s l (flag_at p s) refl in
-      record {
-        count = n.count ∙ h.count;
-        first = n.first;
-        alike = λ s t a b.
-            let w = n.same s t 0 (omega (arith, h.count)) (omega (arith, h.count)) in
-            ((λ e. alike_from_clean p h clean s t a b (w.0 e)), (λ e. w.1 (h.alike s t a b e)));
-      }
+  -- where the list of dirty rows is empty, no row is dirty
+  pub clean_from_none : (p : Partition) → IsRefining rows p → IsQueued p [] → (s : ℕ) → s < length rows → flag_at p s ≡ false
+  clean_from_none p h q s0 l0 = go s0 l0 (flag_at p s0) refl
     where
       go : (s : ℕ) → s < length rows → (b : Bool) → flag_at p s ≡ b → flag_at p s ≡ false
       go s l false f = f
       go s l true f = let c = q.queued s (omega (arith, h.count)) f in absurd (omega (arith, c.1))
+
+  pub AreClasses-from : (p : Partition) (of : List ℕ) → IsRefining rows p → IsQueued p [] → IsNumbering p.of.items of → AreClasses rows of
+  AreClasses-from p of h q n = record {
+    count = n.count ∙ h.count;
+    first = n.first;
+    alike = λ s t a b.
+        let w = n.same s t 0 (omega (arith, h.count)) (omega (arith, h.count)) in
+        ((λ e. alike_from_clean p h (clean_from_none p h q) s t a b (w.0 e)), (λ e. w.1 (h.alike s t a b e)));
+  }
 
   -- before the first round
   pub IsRefining-start : (p : Partition) → p.of.items ≡ replicate (length rows) 0 → p.dirty.items ≡ replicate (length rows) true → length p.known.items ≡ 1 → p.clean.items ≡ 0 ∷ [] → IsRefining rows p

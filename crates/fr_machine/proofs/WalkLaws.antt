@@ -1,12 +1,16 @@
 -- What a machine that a walk built is.
-use Rattle.std.proofs.Common.{ℕ, zero, suc, ◌≡◌, ◌≢◌, ◌+◌, ◌<◌, ◌≤◌, ◌⊎◌, inl, inr, List, [], ◌∷◌, ◌++◌, length, drop, set, get_or, replicate, refl, sym, ◌∙◌, ap, arith, sub-one}
+use Rattle.std.proofs.Common.{ℕ, zero, suc, ◌≡◌, ◌≢◌, ◌+◌, ◌<◌, ◌≤◌, ◌⊎◌, inl, inr, List, [], ◌∷◌, ◌++◌, length, drop, set, get_or, replicate, refl, sym, ◌∙◌, ap, arith, sub-one, eqb, true, false}
 use Rattle.std.proofs.lemmas.List.{get_or_default, get_or_append_left, get_or_push, length_push, get_or-drop, length-drop, get_or-replicate, get_or-set_same, get_or-set_other, length-set}
 use Rattle.std.proofs.lemmas.List.Elements.{All-from_get_or}
-use Rattle.std.proofs.lemmas.Bool.{cases_lt, cases_eq}
+use Rattle.std.specs.List.{Contains, list_any}
+use Rattle.std.proofs.lemmas.Bool.{cases_lt, cases_eq, ne_eqb}
+use Rattle.std.proofs.lemmas.Map.Keys.{IsDistinct-from_apart}
+use Rattle.std.proofs.lemmas.Map.Steps.{length-le_from_distinct_below}
 use Rattle.fr_model.specs.Words.{IsLetter, IsWord}
 use Rattle.fr_model.specs.Permutations.{IsPermutation}
 use Rattle.fr_model.specs.Automata.{next_state, state_after}
 use Rattle.fr_model.proofs.TermLaws.{IsWord-append}
+use Rattle.fr_model.proofs.PermutationLaws.{present_place}
 use Rattle.fr_machine.specs.declared.row.Row.{Row}
 use Rattle.fr_machine.specs.Rows.{states_of, IsRow, IsMachine, row_at}
 use Rattle.fr_machine.specs.Minimal.{AreReached}
@@ -176,3 +180,26 @@ IsBuilt-start d bound step output start keys rows e f = record {
   built = λ i l. absurd (omega (arith, ap length f));
   reached = λ i l. let z : 0 ≡ i = omega (arith, ap length e) in ([], tt, sym (ap (λ xs. get_or xs i 0) e ∙ ap (λ j. get_or (start ∷ []) j 0) (sym z)));
 }
+
+-- a key that was not met leaves room
+pub length-lt_from_fresh : (bound key : ℕ) (keys : List ℕ) → IsKeys bound keys → key < bound → ¬ Contains keys key → length keys < bound
+length-lt_from_fresh bound key keys h l fresh =
+    let all = key ∷ keys in
+    let apart : (i j d : ℕ) → i < j → j < length all → eqb (get_or all i d) (get_or all j d) ≡ false = λ i j d a b. ne_eqb _ _ (clash i j d a b) in
+    let most = length-le_from_distinct_below all bound (IsDistinct-from_apart eqb all apart) below in
+    omega (arith, most)
+  where
+    clash : (i j d : ℕ) → i < j → j < length (key ∷ keys) → get_or (key ∷ keys) i d ≢ get_or (key ∷ keys) j d
+    clash zero zero d a b e = absurd (omega arith)
+    clash zero (suc j) d a b e = fresh (j, omega arith, get_or_default keys j key d (omega arith) ∙ sym e)
+    clash (suc i) zero d a b e = absurd (omega arith)
+    clash (suc i) (suc j) d a b e =
+        let same = h.distinct i j (omega arith) (omega arith) (get_or_default keys i 0 d (omega arith) ∙ e ∙ get_or_default keys j d 0 (omega arith)) in
+        omega (arith, same)
+
+    below_at : (q i : ℕ) → i < length (key ∷ keys) → get_or (key ∷ keys) i q ≡ q → q < bound
+    below_at q zero a e = omega (arith, e)
+    below_at q (suc i) a e = let b = h.below i (omega arith) in omega (arith, b, get_or_default keys i 0 q (omega arith), e)
+
+    below : (q : ℕ) → list_any (eqb q) (key ∷ keys) ≡ true → q < bound
+    below q e = let r = present_place 0 (key ∷ keys) q e in below_at q r.0 r.1 r.3

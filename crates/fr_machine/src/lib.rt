@@ -17,6 +17,6 @@ mod walk;
 pub use fixed::FixedWalk;
 pub use machine::Machine;
 pub use minimal::{Minimal, STATE_LIMIT};
-pub use partition::classes;
+pub use partition::{classes, classes_within};
 pub use row::Row;
 pub use walk::Walk;

@@ -1,6 +1,6 @@
 //! Rows that act alike, found by refining a partition of all rows.
 
-ghost use Rattle.std.specs.Prelude.{◌≡◌, ℕ, ◌<◌, ◌≤◌, Some, None, [], ◌∷◌, IfOk, OnOk, length, true, slice_index_or, replicate};
+ghost use Rattle.std.specs.Prelude.{◌≡◌, ℕ, ◌<◌, ◌≤◌, ◌⊎◌, Some, None, [], ◌∷◌, IfOk, OnOk, MatchOption, length, true, slice_index_or, replicate};
 ghost use Rattle.fr_model.specs.Permutations.{numbers_from};
 ghost use Rattle.std.specs.List.{All, Contains};
 ghost use Rattle.std.specs.BTreeMap.{Updates};
@@ -9,7 +9,7 @@ ghost use Rattle.std.specs.Ordering.{nat_cmp};
 ghost use Rattle.fr_machine.specs.Rows.{IsRow, IsMachine};
 ghost use Rattle.fr_machine.specs.Members.{IsMembers};
 ghost use Rattle.fr_machine.specs.Numberings.{IsNumbering};
-ghost use Rattle.fr_machine.specs.Classes.{AreClasses};
+ghost use Rattle.fr_machine.specs.Classes.{AreClasses, HasMoreClasses};
 ghost use Rattle.fr_machine.specs.Refinement.{signature_of, signed_rows, number_in, clean_at, flag_at, known_at, IsTarget, IsPlaced, IsMarked, IsWider, IsSeen, IsUsed, IsTallied, IsQueued, IsRefining, IsSettled, IsSpread, IsSpreadOver, Progress};
 ghost use Rattle.fr_machine.specs.Predecessors.{AreLinks, ArePredecessors, lists_of};
 
@@ -35,13 +35,42 @@ pub fn classes(alloc: Global, m: &Machine) -> Result<Vec<u16>, NoMemory>
     ensures { IfOk result (λ of. AreClasses m.now.rows of.items) }
 {
     let rows = m.rows();
+    let partition = refined(alloc, rows, rows.len())?;
+    by_first_places(alloc, partition.known.len(), &partition.of)
+}
+
+/// The class of each row, as [`classes`], if there are at most so many. The answer is `None` exactly where there are more,
+/// that is more rows than the limit no two of which act alike; then the refinement ends as soon as this is known. The
+/// only error is want of memory.
+pub fn classes_within(
+    alloc: Global,
+    m: &Machine,
+    limit: usize,
+) -> Result<Option<Vec<u16>>, NoMemory>
+    ensures { IfOk result (λ o. MatchOption o (HasMoreClasses m.now.rows limit) (λ of. AreClasses m.now.rows of.items × (¬ HasMoreClasses m.now.rows limit))) }
+{
+    let rows = m.rows();
+    let partition = refined(alloc, rows, limit)?;
+    if partition.known.len() > limit {
+        return Ok(None);
+    }
+    Ok(Some(by_first_places(alloc, partition.known.len(), &partition.of)?))
+}
+
+// The rows in classes, until no row is dirty or there are more classes than the limit. Rows of different classes do not act
+// alike, however far the refinement has come.
+fn refined(alloc: Global, rows: &[Row], limit: usize) -> Result<Partition, NoMemory>
+    requires machine { (d : ℕ) × IsMachine d rows.now }
+    ensures refining { IfOk result (λ p. IsRefining rows.now p) }
+    ensures ends { IfOk result (λ p. IsQueued p [] ⊎ (limit < length p.known.items)) }
+{
     let before = Predecessors::new(alloc, rows)?;
     let mut partition = Partition::new(alloc, rows.len())?;
     let mut members = Members::new(alloc, rows.len())?;
-    while !partition.todo.is_empty() {
+    while !partition.todo.is_empty() && partition.known.len() <= limit {
         partition.refine(alloc, rows, &before, &mut members)?;
     }
-    by_first_places(alloc, partition.known.len(), &partition.of)
+    Ok(partition)
 }
 
 // A class and a signature.

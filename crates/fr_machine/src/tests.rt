@@ -1,6 +1,6 @@
 //! Small machines whose answers are known by hand.
 
-use crate::{FixedWalk, Machine, Minimal, Row, Walk, classes};
+use crate::{FixedWalk, Machine, Minimal, Row, Walk, classes, classes_within};
 use fr_alphabet::{Alphabet, NoMemory, Perm, Word};
 use std::alloc::Global;
 use std::test::Fail;
@@ -61,6 +61,8 @@ fn like_rows_share_a_class(rt: HostRuntime) -> Result<(), Fail> {
         classes(alloc, &m.copy(alloc)?)?.as_slice(),
         [0, 1, 0].as_slice()
     );
+    assert!(rt; classes_within(alloc, &m, 1)?.is_none());
+    assert!(rt; classes_within(alloc, &m, 2)?.is_some());
     Ok(())
 }
 
@@ -84,6 +86,7 @@ fn keys_are_numbered_as_they_come(rt: HostRuntime) -> Result<(), Fail> {
     assert_eq!(rt; walk.number(3, 2)?, Some(1));
     assert_eq!(rt; walk.number(5, 2)?, Some(0));
     assert_eq!(rt; walk.number(7, 2)?, None);
+    assert_eq!(rt; walk.number_of(7)?, 2);
     let mut fixed = FixedWalk::new(alloc)?;
     assert_eq!(rt; fixed.number(1023), 0);
     assert_eq!(rt; fixed.number(3), 1);

@@ -67,4 +67,17 @@ impl Walk {
         self.index[key as usize] = number as u32 + 1;
         Ok(Some(number as u16))
     }
+    /// The number of a key below the bound, which it has from now on, where the bound is at most 65,536, so that each key
+    /// has room. The only error is want of memory.
+    pub fn number_of(&mut self, key: u32) -> Result<u16, NoMemory>
+        requires key { key < self.old.bound }
+        requires bound { self.old.bound ≤ 65536 }
+        ensures { MatchResult result (λ n. IsNumbered self.old self.new key 65536 n) (λ _. self.new ≡ self.old) }
+    {
+        let _keys = self.keys();
+        match self.number(key, 65536)? {
+            Some(number) => Ok(number),
+            None => unreachable!(),
+        }
+    }
 }

@@ -4,6 +4,7 @@
 //! (Grigorchuk, Nekrashevych and Sushchanskii, Automata, dynamical systems, and groups).
 #![tactic(auto)]
 
+mod reached;
 mod search;
 mod separation;
 mod smallest;

@@ -6,7 +6,7 @@ ghost use Rattle.fr_minimal.specs.Searches.{IsMarked, IsMeeting, IsLinked, AreWo
 use fr_alphabet::NoMemory;
 use std::alloc::Global;
 
-// A pair of rows that was met: behind which place, by which letter.
+/// A pair of rows that was met: its number, the place of the pair before it, and the letter that leads from there.
 #[derive(Clone, Copy)]
 pub struct Met {
     pub pair: u32,
@@ -14,7 +14,7 @@ pub struct Met {
     pub letter: u8,
 }
 
-// The pairs that were met, and a mark for each of them in a table of all pairs.
+/// The pairs that were met, in order, and a mark for each of them in a table of all pairs.
 #[derive(Drop)]
 pub struct Search {
     pub marks: Vec<bool>,
@@ -22,7 +22,7 @@ pub struct Search {
 }
 
 impl Search {
-    // The search that begins with this pair, among so many.
+    /// The search that has met this pair alone, of so many in all. The only error is want of memory.
     pub fn new(alloc: Global, bound: usize, pair: u32) -> Result<Search, NoMemory>
         requires { pair < bound }
         ensures bound { IfOk result (λ s. length s.marks.items ≡ bound) }
@@ -41,7 +41,7 @@ impl Search {
         Ok(search)
     }
 
-    // Enters a pair at the end, unless it was met before.
+    /// Enters a pair at the end, unless it was met before. The only error is want of memory.
     pub fn meet(&mut self, met: Met) -> Result<(), NoMemory>
         requires pair { met.pair < length self.old.marks.items }
         requires marked { IsMarked self.old.marks.items self.old.met.items }
@@ -57,7 +57,7 @@ impl Search {
         Ok(())
     }
 
-    // The letters that lead to the pair at a place, and one more.
+    /// The letters that lead to the pair at a place, and `last` behind them. The only error is want of memory.
     pub fn word_to(&self, alloc: Global, place: u32, last: u8) -> Result<Vec<u8>, NoMemory>
         requires place { place < length self.now.met.items }
         requires linked { IsLinked self.now.met.items }

@@ -9,8 +9,9 @@ ghost use Rattle.fr_machine.specs.Rows.{row_term, states_of};
 ghost use Rattle.fr_model.specs.Classes.{HasMoreStates};
 ghost use Rattle.fr_minimal.specs.Smallest.{IsSmallest, IsChoice, chosen_of, chosen_step, chosen_output};
 
+use crate::reached::reached;
 use fr_alphabet::NoMemory;
-use fr_machine::{Machine, Minimal, Row, STATE_LIMIT, Walk, classes};
+use fr_machine::{Machine, Minimal, Row, STATE_LIMIT, Walk, classes_within};
 use std::alloc::{AllocFailed, Global};
 use thiserror::Error;
 
@@ -51,6 +52,9 @@ impl From<NoMemory> for MinFault {
 /// order in which they are met. It is the reduced automaton of Grigorchuk, Nekrashevych and Sushchanskii (Automata,
 /// dynamical systems, and groups); the limit is this project's own.
 ///
+/// Only the rows that are reached from row `s` are looked at, and where there are too many classes of them, the refinement
+/// ends as soon as this is known.
+///
 /// Errors: `StatesPassed` exactly where there are more than 1,024 sections, no two of which act alike, and memory lasts.
 pub fn minimize(alloc: Global, m: &Machine, s: u16) -> Result<Minimal, MinFault>
     requires { s < length m.now.rows }
@@ -59,8 +63,11 @@ pub fn minimize(alloc: Global, m: &Machine, s: u16) -> Result<Minimal, MinFault>
     ensures passed { IsErrOf result MinFault.StatesPassed → HasMoreStates m.now.alphabet (row_term m.now.rows s) 1024 }
     ensures within { OnOk result (¬ HasMoreStates m.now.alphabet (row_term m.now.rows s) 1024) }
 {
-    let of = classes(alloc, m)?;
-    minimize_with(alloc, m, &of, s)
+    let part = reached(alloc, m, s)?;
+    match classes_within(alloc, &part, STATE_LIMIT)? {
+        Some(of) => minimize_with(alloc, &part, &of, 0),
+        None => Err(MinFault::StatesPassed),
+    }
 }
 
 /// The smallest machine whose row 0 acts like row `s` of `m`, as [`minimize`], where `of` is what `classes` gives of `m`. It
@@ -140,8 +147,8 @@ fn row_of(m: &Machine, of: &[u16], chosen: &[u16], walk: &mut Walk, s: u16) -> R
     })
 }
 
-// A walk that begins with this key.
-fn walk_from(alloc: Global, bound: usize, key: u32) -> Result<Walk, NoMemory>
+/// A walk over keys below `bound` that has met this key alone. The only error is want of memory.
+pub fn walk_from(alloc: Global, bound: usize, key: u32) -> Result<Walk, NoMemory>
     requires { key < bound }
     ensures bound { IfOk result (λ w. w.bound ≡ bound) }
     ensures keys { IfOk result (λ w. w.keys ≡ key ∷ []) }

@@ -1,10 +1,10 @@
 use Rattle.std.proofs.Common.{◌≡◌, ◌-◌, ◌+◌, length, min}
 use Rattle.fr_machine.specs.Members.{IsMembers}
 use Rattle.fr_machine.specs.Refinement.{IsRefining, IsQueued}
-use Rattle.fr_machine.proofs.partition.classes.Given as goal
+use Rattle.fr_machine.proofs.partition.refined.Given as goal
 
-abbrev pub invariant-loop-rows : goal.invariant-loop-rows
-invariant-loop-rows l = record {
+abbrev pub invariant-loop-partition : goal.invariant-loop-partition
+invariant-loop-partition l = record {
   refining : IsRefining l.rows l.partition;
   queued : IsQueued l.partition l.partition.todo.items;
   members : IsMembers l.members;
@@ -12,5 +12,5 @@ invariant-loop-rows l = record {
 }
 
 -- a class more, or nothing left to do
-abbrev pub decreases-loop-rows : goal.decreases-loop-rows
-decreases-loop-rows l = (length l.rows - length l.partition.known.items) + min 1 (length l.partition.todo.items)
+abbrev pub decreases-loop-partition : goal.decreases-loop-partition
+decreases-loop-partition l = (length l.rows - length l.partition.known.items) + min 1 (length l.partition.todo.items)

@@ -1,0 +1,68 @@
+-- Whether a partition into classes has more of them than a limit.
+use Rattle.std.proofs.Common.{ℕ, zero, suc, ◌≡◌, ◌<◌, ◌≤◌, List, [], ◌∷◌, length, get_or, refl, sym, ◌∙◌, arith}
+use Rattle.std.proofs.lemmas.List.{get_or_default}
+use Rattle.std.proofs.lemmas.List.Elements.{All-get_or}
+use Rattle.fr_model.specs.Classes.{IsClassCount}
+use Rattle.fr_model.proofs.CountLaws.{apart-le}
+use Rattle.fr_machine.specs.declared.row.Row.{Row}
+use Rattle.fr_machine.specs.declared.partition.Partition.{Partition}
+use Rattle.fr_machine.specs.Rows.{IsMachine}
+use Rattle.fr_machine.specs.Classes.{HasMoreClasses}
+use Rattle.fr_machine.specs.Refinement.{class_in, IsQueued, IsRefining}
+use Rattle.fr_machine.proofs.PartitionLaws.{alike_from_clean, clean_from_none}
+
+-- a list with a number for each place
+list_from : (n : ℕ) (P : ℕ → ℕ → Type 0) → ((i : ℕ) → i < n → (s : ℕ) × P i s) → (xs : List ℕ) × (length xs ≡ n) × ((i : ℕ) → i < n → P i (get_or xs i 0))
+list_from zero P h = ([], refl, λ i l. absurd (omega arith))
+list_from (suc n) P h =
+    let r = list_from n (λ i s. P (suc i) s) (λ i l. h (suc i) (omega arith)) in
+    let first = h 0 (omega arith) in
+    (first.0 ∷ r.0, omega (arith, r.1), at first.0 r.0 first.1 r.2)
+  where
+    at : (x : ℕ) (xs : List ℕ) → P 0 x → ((i : ℕ) → i < n → P (suc i) (get_or xs i 0)) → (i : ℕ) → i < suc n → P i (get_or (x ∷ xs) i 0)
+    at x xs a b zero l = a
+    at x xs a b (suc i) l = b i (omega arith)
+
+abbrev Valid : List Row → ℕ → Type 0
+Valid rows s = s < length rows
+
+abbrev OneClass : Partition → ℕ → ℕ → Type 0
+OneClass p s t = class_in p s ≡ class_in p t
+
+-- a row of each class
+IsClassCount-refining : (rows : List Row) (p : Partition) → IsRefining rows p → IsClassCount (Valid rows) (OneClass p) (length p.known.items)
+IsClassCount-refining rows p h =
+    let n = length p.known.items in
+    let r = list_from n (λ c s. (s < length rows) × (class_in p s ≡ c)) (λ c k. let w = h.used c k in (w.0, (omega (arith, w.1, h.count), get_or_default p.of.items w.0 0 c w.1 ∙ w.2))) in
+    let at : (i z : ℕ) → i < length r.0 → (get_or r.0 i z < length rows) × (class_in p (get_or r.0 i z) ≡ i) = λ i z l. rw (get_or_default r.0 i z 0 l) (r.2 i (omega (arith, r.1))) in
+    record {
+      members = r.0;
+      count = r.1;
+      valid = λ i z l. (at i z l).0;
+      apart = λ i j z l k e.
+          let same : i ≡ j = sym (at i z (omega arith)).1 ∙ e ∙ (at j z k).1 in
+          omega arith;
+      covers = λ s l.
+          let below = All-get_or (λ c. c < n) p.of.items s 0 (omega (arith, h.count)) h.tallied.below in
+          let room : class_in p s < length r.0 = omega (arith, r.1, below) in
+          (class_in p s, room, sym (at (class_in p s) s room).1);
+    }
+
+-- rows of different classes do not act alike, however far the refinement has come
+pub HasMoreClasses-from : (rows : List Row) (p : Partition) (limit : ℕ) → IsRefining rows p → limit < length p.known.items → HasMoreClasses rows limit
+HasMoreClasses-from rows p limit h l =
+    let c = IsClassCount-refining rows p h in
+    record {
+      members = c.members;
+      more = omega (arith, c.count);
+      valid = c.valid;
+      apart = λ i j z k g e. c.apart i j z k g (h.alike _ _ (c.valid i z (omega arith)) (c.valid j z g) e);
+    }
+
+-- where no row is dirty, there are no more classes than those
+pub not-HasMoreClasses : (d : ℕ) (rows : List Row) → IsMachine d rows → (p : Partition) (limit : ℕ) → IsRefining rows p → IsQueued p [] → length p.known.items ≤ limit → ¬ HasMoreClasses rows limit
+not-HasMoreClasses d rows m p limit h q l more =
+    let most = apart-le 0 (Valid rows) (OneClass p) (λ s t e. sym e) (λ s t u e f. e ∙ f) more.members (length p.known.items) more.valid
+    (λ i j k g e. more.apart i j 0 k g (alike_from_clean d rows m p h (clean_from_none d rows m p h q) _ _ (more.valid i 0 (omega arith)) (more.valid j 0 g) e))
+    (IsClassCount-refining rows p h) in
+    omega (arith, most, more.more)
