@@ -22,6 +22,16 @@ pub enum Answer {
     Word(usize),
     /// Two elements act alike.
     Alike,
+    /// The letters of a ray before its period, and in it.
+    Ray(usize, usize),
+    /// A ray has more than 4,096 letters.
+    RayPassed,
+    /// The activity ends at this length.
+    Finitary(u16),
+    /// The activity is polynomial of this degree.
+    Polynomial(u16),
+    /// The activity is exponential; the letters on the way to a section, and on each of two ways back to it.
+    Exponential(usize, usize),
 }
 
 impl fmt::Display for Answer {
@@ -34,6 +44,11 @@ impl fmt::Display for Answer {
             Answer::Code(length) => write!(f, "{length} numbers"),
             Answer::Word(length) => write!(f, "{length} letters"),
             Answer::Alike => write!(f, "alike"),
+            Answer::Ray(before, period) => write!(f, "{before} letters and {period} that repeat"),
+            Answer::RayPassed => write!(f, "ray passes"),
+            Answer::Finitary(depth) => write!(f, "finitary {depth}"),
+            Answer::Polynomial(degree) => write!(f, "polynomial {degree}"),
+            Answer::Exponential(at, back) => write!(f, "exponential at {at} letters by {back}"),
         }
     }
 }

@@ -5,8 +5,10 @@ ghost use Rattle.std.specs.Prelude.{ℕ, ◌≤◌, IfOk};
 use crate::answer::{Answer, Stop};
 use crate::codes::{list, scattered};
 use crate::cycles::{cycle, half_cycle};
+use crate::growths::{Kind, classify, growing};
 use crate::partitions::{chain, count_classes, drawn, halves, reversed};
 use crate::products::multiply;
+use crate::rays::find_image;
 use crate::separations::tell_apart;
 use fr_machine::Machine;
 use std::alloc::Global;
@@ -21,6 +23,9 @@ use std::str::SplitWhitespace;
 /// - `canon D N`: the code of an element of N states, at most 1,024, over D letters, 2 to 8.
 /// - `separate N`: cycles of N and N - 1 states, at most 1,024, that agree on all words of less than 2 N - 2 letters.
 /// - `wide N`: the factors of `grid N N`, of which about half the pairs are met.
+/// - `ray P N`: the image of the ray that repeats N letters, at most 4,096, under a cycle of P states, at most 1,024.
+/// - `growth ends N`, `growth loops N`, `growth loop-first N`, `growth loop-last N`, `growth back N`, `growth cycle N`,
+///   `growth scattered N`: the class of growth of an element of N states, 2 to 1,024, over 8 letters.
 ///
 /// `Usage` is the answer to any other words.
 pub fn measure(alloc: Global, case: &str) -> Result<Answer, Stop> {
@@ -38,6 +43,10 @@ pub fn measure(alloc: Global, case: &str) -> Result<Answer, Stop> {
         measure_separate(alloc, parts)
     } else if name == "wide" {
         measure_wide(alloc, parts)
+    } else if name == "ray" {
+        measure_ray(alloc, parts)
+    } else if name == "growth" {
+        measure_growth(alloc, parts)
     } else {
         Err(Stop::Usage)
     }
@@ -105,6 +114,41 @@ fn measure_wide(alloc: Global, mut parts: SplitWhitespace<'_>) -> Result<Answer,
     let a = half_cycle(alloc, count, true)?;
     let b = half_cycle(alloc, count, false)?;
     tell_apart(alloc, &a, &b, times(&mut parts)?)
+}
+
+fn measure_ray(alloc: Global, mut parts: SplitWhitespace<'_>) -> Result<Answer, Stop> {
+    let states = number(&mut parts)?;
+    let letters = number(&mut parts)?;
+    let element = cycle(alloc, states, states - 1)?;
+    find_image(alloc, &element, letters, times(&mut parts)?)
+}
+
+fn measure_growth(alloc: Global, mut parts: SplitWhitespace<'_>) -> Result<Answer, Stop> {
+    let kind = growth_kind(parts.next().ok_or(Stop::Usage)?)?;
+    let count = number(&mut parts)?;
+    let element = growing(alloc, kind, count)?;
+    classify(alloc, &element, times(&mut parts)?)
+}
+
+// The kind of a name.
+fn growth_kind(name: &str) -> Result<Kind, Stop> {
+    if name == "ends" {
+        Ok(Kind::Ends)
+    } else if name == "loops" {
+        Ok(Kind::Loops)
+    } else if name == "loop-first" {
+        Ok(Kind::LoopFirst)
+    } else if name == "loop-last" {
+        Ok(Kind::LoopLast)
+    } else if name == "back" {
+        Ok(Kind::Back)
+    } else if name == "cycle" {
+        Ok(Kind::Cycle)
+    } else if name == "scattered" {
+        Ok(Kind::Scattered)
+    } else {
+        Err(Stop::Usage)
+    }
 }
 
 // The next part as a number.

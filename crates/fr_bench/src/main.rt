@@ -8,8 +8,10 @@ mod builder;
 mod cases;
 mod codes;
 mod cycles;
+mod growths;
 mod partitions;
 mod products;
+mod rays;
 mod separations;
 
 use cases::measure;

@@ -22,7 +22,7 @@ use Rattle.fr_alphabet.specs.Padded.{padded}
 use Rattle.fr_machine.specs.declared.row.Row.{Row}
 use Rattle.fr_syntax.specs.declared.statement.Recursion.{Recursion}
 use Rattle.fr_syntax.specs.declared.statement.SecName.{SecName}
-use Rattle.fr_eval.specs.Blocks.{names_of, place_of, factor_of, wreath_of_recursion, block_system}
+use Rattle.fr_plain.specs.Blocks.{names_of, place_of, factor_of, wreath_of_recursion, block_system}
 use Rattle.fr_eval.specs.Built.{IsLetterSection, IsBuiltLine, IsBuiltBlock}
 use Rattle.fr_eval.specs.BlockRows.{next_of, row_from, block_rows}
 

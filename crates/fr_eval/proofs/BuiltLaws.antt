@@ -6,11 +6,12 @@ use Rattle.std.specs.Str.{bytes_eq}
 use Rattle.std.proofs.lemmas.List.Elements.{All-nil, All-cons, All-head, All-tail}
 use Rattle.fr_syntax.specs.declared.statement.Recursion.{Recursion}
 use Rattle.fr_syntax.specs.declared.statement.SecName.{SecName}
-use Rattle.fr_eval.specs.Blocks.{names_of, place_of}
+use Rattle.fr_plain.specs.Blocks.{names_of, place_of}
 use Rattle.fr_script.specs.declared.fault.LineFault.TheVariants as f
 use Rattle.fr_script.specs.declared.fault.Fault.{Fault}
 use Rattle.fr_eval.specs.BlockFaults.{unknown_fault, repeat_fault, block_fault}
-use Rattle.fr_eval.specs.BlockNames.{first_repeat, has_unknown, first_unknown, is_letter_section, is_built}
+use Rattle.fr_plain.specs.BlockNames.{first_repeat, has_unknown, first_unknown}
+use Rattle.fr_eval.specs.Sections.{is_letter_section, is_built}
 use Rattle.fr_syntax.specs.Fits.{FitsRecursion}
 use Rattle.fr_eval.specs.Built.{IsLetterSection, IsBuiltLine, IsBuiltBlock}
 use Rattle.fr_eval.proofs.NameLaws.{list_any-place}

@@ -7,8 +7,8 @@ use Rattle.std.proofs.lemmas.List.{take_more, map_push, length-map, length-take}
 use Rattle.std.proofs.lemmas.Slice.Eq.{bytes_eq-Decides}
 use Rattle.std.proofs.Math.Seq.{drop-cons}
 use Rattle.fr_syntax.specs.declared.statement.Recursion.{Recursion}
-use Rattle.fr_eval.specs.Blocks.{names_of, place_of}
-use Rattle.fr_eval.specs.BlockNames.{first_repeat}
+use Rattle.fr_plain.specs.Blocks.{names_of, place_of}
+use Rattle.fr_plain.specs.BlockNames.{first_repeat}
 
 bytes_same : (m n : List ℕ) → bytes_eq m n ≡ true → m ≡ n
 bytes_same m n e = (bytes_eq-Decides m n).0 e

@@ -2,7 +2,7 @@
 use Rattle.std.proofs.Common.{◌≡◌, Bool, true, false, ◌||◌, List, [], ◌∷◌, ◌++◌, refl, sym, ◌∙◌, ap, append_assoc}
 use Rattle.std.proofs.lemmas.List.{append-nil}
 use Rattle.fr_script.specs.declared.item.Item.{Item}
-use Rattle.fr_eval.specs.Scopes.{Scope}
+use Rattle.fr_plain.specs.Scopes.{Scope}
 use Rattle.fr_eval.specs.Plain.{item_outcome, scope_after, text_from, refused_from}
 
 pub scope_after-push : (scope : Scope) (items : List Item) (item : Item) → scope_after scope (items ++ item ∷ []) ≡ (item_outcome (scope_after scope items) item).scope

@@ -8,8 +8,8 @@ use Rattle.fr_model.specs.Terms.{Term, Name, IsAlike}
 use Rattle.fr_machine.specs.Machine.{MachineView}
 use Rattle.fr_syntax.specs.declared.statement.Recursion.{Recursion}
 use Rattle.fr_eval.specs.declared.env.Place.{Place}
-use Rattle.fr_eval.specs.Blocks.{names_of}
-use Rattle.fr_eval.specs.Scopes.{Scope, bound, bind_names}
+use Rattle.fr_plain.specs.Blocks.{names_of}
+use Rattle.fr_plain.specs.Scopes.{Scope, bound, bind_names}
 use Rattle.fr_eval.specs.Tables.{Table, value_at}
 use Rattle.fr_eval.specs.Places.{machine_at, IsPlaceOf, StandsFor, HoldsScope}
 use Rattle.fr_eval.proofs.NameLaws.{names_more}

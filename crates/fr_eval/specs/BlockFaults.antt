@@ -3,8 +3,9 @@ use Rattle.std.specs.Prelude.{ℕ, if◌then◌else◌, List, [], Option, Some, 
 use Rattle.fr_syntax.specs.declared.statement.Recursion.{Recursion}
 use Rattle.fr_script.specs.declared.fault.LineFault.TheVariants as f
 use Rattle.fr_script.specs.declared.fault.Fault.{Fault}
-use Rattle.fr_eval.specs.Blocks.{names_of}
-use Rattle.fr_eval.specs.BlockNames.{first_repeat, first_unknown, is_built}
+use Rattle.fr_plain.specs.Blocks.{names_of}
+use Rattle.fr_plain.specs.BlockNames.{first_repeat, first_unknown}
+use Rattle.fr_eval.specs.Sections.{is_built}
 
 -- sections that this version does not evaluate
 abbrev pub unbuilt_fault : ℕ → List Recursion → Option Fault

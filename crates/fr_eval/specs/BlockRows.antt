@@ -5,7 +5,7 @@ use Rattle.fr_alphabet.specs.Padded.{padded}
 use Rattle.fr_machine.specs.declared.row.Row.{Row}
 use Rattle.fr_syntax.specs.declared.statement.Recursion.{Recursion}
 use Rattle.fr_syntax.specs.declared.statement.SecName.{SecName}
-use Rattle.fr_eval.specs.Blocks.{names_of, place_of}
+use Rattle.fr_plain.specs.Blocks.{names_of, place_of}
 
 -- the row of a section: that of its first name, and the last row for 1
 abbrev pub next_of : List (List ℕ) → List SecName → ℕ

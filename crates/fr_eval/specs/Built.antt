@@ -4,7 +4,7 @@ use Rattle.std.specs.List.{All}
 use Rattle.fr_model.specs.Permutations.{IsPermutation}
 use Rattle.fr_syntax.specs.declared.statement.Recursion.{Recursion}
 use Rattle.fr_syntax.specs.declared.statement.SecName.{SecName}
-use Rattle.fr_eval.specs.Blocks.{names_of, place_of}
+use Rattle.fr_plain.specs.Blocks.{names_of, place_of}
 
 -- 1, or one of the names
 abbrev pub IsLetterSection : List (List ℕ) → List SecName → Type 0

@@ -2,7 +2,7 @@
 use Rattle.std.specs.Prelude.{ℕ, ◌≡◌, ◌++◌, Bool, List}
 use Rattle.fr_machine.specs.Machine.{MachineView}
 use Rattle.fr_eval.specs.declared.env.Place.{Place}
-use Rattle.fr_eval.specs.Scopes.{Scope}
+use Rattle.fr_plain.specs.Scopes.{Scope}
 use Rattle.fr_eval.specs.Plain.{Outcome}
 use Rattle.fr_eval.specs.Tables.{Table}
 use Rattle.fr_eval.specs.Places.{HoldsScope}

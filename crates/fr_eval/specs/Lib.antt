@@ -1,7 +1,5 @@
-pub mod Blocks
-pub mod BlockNames
+pub mod Sections
 pub mod BlockFaults
-pub mod Scopes
 pub mod Plain
 pub mod PlainScripts
 pub mod Tables

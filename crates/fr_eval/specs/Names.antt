@@ -1,8 +1,8 @@
 -- The places of the names of a block as a table has them.
 use Rattle.std.specs.Prelude.{ℕ, ◌≡◌, List, [], None}
 use Rattle.fr_syntax.specs.declared.statement.Recursion.{Recursion}
-use Rattle.fr_eval.specs.Blocks.{names_of, place_of}
-use Rattle.fr_eval.specs.BlockNames.{first_repeat}
+use Rattle.fr_plain.specs.Blocks.{names_of, place_of}
+use Rattle.fr_plain.specs.BlockNames.{first_repeat}
 use Rattle.fr_eval.specs.Tables.{Table, value_at}
 
 -- the table has the place of each of these names

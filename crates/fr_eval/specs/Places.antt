@@ -4,7 +4,7 @@ use Rattle.fr_model.specs.Terms.{Term, IsAlike}
 use Rattle.fr_machine.specs.Rows.{row_term}
 use Rattle.fr_machine.specs.Machine.{MachineView}
 use Rattle.fr_eval.specs.declared.env.Place.{Place}
-use Rattle.fr_eval.specs.Scopes.{Scope, bound}
+use Rattle.fr_plain.specs.Scopes.{Scope, bound}
 use Rattle.fr_eval.specs.Tables.{Table, value_at}
 
 abbrev pub machine_at : List MachineView → ℕ → MachineView

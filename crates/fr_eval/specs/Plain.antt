@@ -17,9 +17,9 @@ use Rattle.fr_syntax.specs.declared.tree.Atom.{Atom}
 use Rattle.fr_syntax.specs.declared.tree.Atom.TheVariants as a
 use Rattle.fr_syntax.specs.declared.tree.Op.{Op}
 use Rattle.fr_script.specs.FaultTexts.{fault_text}
-use Rattle.fr_eval.specs.Blocks.{block_system, names_of}
+use Rattle.fr_plain.specs.Blocks.{block_system, names_of}
 use Rattle.fr_eval.specs.BlockFaults.{block_fault}
-use Rattle.fr_eval.specs.Scopes.{Scope, bound, bind_names}
+use Rattle.fr_plain.specs.Scopes.{Scope, bound, bind_names}
 
 -- what an item gives: its text, whether that is a fault, and the bindings that the lines below it see
 pub record Outcome : Type 0 where

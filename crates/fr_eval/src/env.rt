@@ -5,8 +5,8 @@ ghost use Rattle.std.specs.Str.{bytes_eq};
 ghost use Rattle.fr_model.specs.Words.{IsWord};
 ghost use Rattle.fr_model.specs.Terms.{Term, Name, IsAlike};
 ghost use Rattle.fr_machine.specs.Machine.{MachineView};
-ghost use Rattle.fr_eval.specs.Blocks.{names_of, block_system};
-ghost use Rattle.fr_eval.specs.Scopes.{Scope, bind_names};
+ghost use Rattle.fr_plain.specs.Blocks.{names_of, block_system};
+ghost use Rattle.fr_plain.specs.Scopes.{Scope, bind_names};
 ghost use Rattle.fr_eval.specs.Tables.{value_at};
 ghost use Rattle.fr_eval.specs.Places.{IsPlaceOf, HoldsScope};
 

@@ -1,7 +1,7 @@
 //! The fault of a block whose lines were read without one.
 
 ghost use Rattle.std.specs.Prelude.{◌≡◌, ◌<◌, ◌^◌, IfOk, None, Some, length, MatchResult};
-ghost use Rattle.fr_eval.specs.Blocks.{names_of};
+ghost use Rattle.fr_plain.specs.Blocks.{names_of};
 ghost use Rattle.fr_eval.specs.BlockFaults.{block_fault};
 ghost use Rattle.fr_eval.specs.Names.{HasPlaces};
 

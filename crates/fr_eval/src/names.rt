@@ -3,8 +3,9 @@
 ghost use Rattle.std.specs.Prelude.{◌≡◌, ◌<◌, ◌^◌, ℕ, List, Bool, Some, None, [], IfOk, OnOk, is_some, length, MatchResult, if◌then◌else◌};
 ghost use Rattle.std.specs.Str.{bytes_eq};
 ghost use Rattle.std.specs.List.{list_any, list_all};
-ghost use Rattle.fr_eval.specs.Blocks.{names_of, place_of};
-ghost use Rattle.fr_eval.specs.BlockNames.{first_repeat, first_unknown, has_unknown, is_letter_section, is_built};
+ghost use Rattle.fr_plain.specs.Blocks.{names_of, place_of};
+ghost use Rattle.fr_plain.specs.BlockNames.{first_repeat, first_unknown, has_unknown};
+ghost use Rattle.fr_eval.specs.Sections.{is_letter_section, is_built};
 ghost use Rattle.fr_eval.specs.Tables.{value_at};
 ghost use Rattle.fr_eval.specs.Names.{ArePlaces};
 

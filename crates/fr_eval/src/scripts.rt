@@ -9,7 +9,7 @@ ghost use Rattle.fr_alphabet.specs.Writing.{word_text};
 ghost use Rattle.fr_script.specs.FaultTexts.{fault_text};
 ghost use Rattle.fr_syntax.specs.Fits.{FitsRecursion, FitsStatement};
 ghost use Rattle.fr_script.specs.Fits.{FitsItem, FitsScript};
-ghost use Rattle.fr_eval.specs.Scopes.{Scope, bound};
+ghost use Rattle.fr_plain.specs.Scopes.{Scope, bound};
 ghost use Rattle.fr_eval.specs.Plain.{lone_name, bare_name, image_of, act_outcome, group_outcome, statement_outcome, item_outcome, plain_text, has_fault};
 ghost use Rattle.fr_eval.specs.BlockFaults.{block_fault};
 ghost use Rattle.fr_eval.specs.Places.{HoldsScope};

@@ -88,7 +88,7 @@ module _ (d : ℕ) (rows : List Row) (m : IsMinimal d rows) (numbers : List ℕ)
 
       -- where a row does not return, its component has no other row
       pub same_row : (r s : ℕ) → r < length rows → s < length rows → get_or numbers r 0 ≡ get_or numbers s 0 → get_or returns r 0 ≡ 0 → r ≡ s
-      same_row r s b c e none = let w = a.joined r s b c e in along w.0 w.1 w.2
+      same_row r s b c e none = let w = a.joined r s b c e in along w.along w.valid w.there
         where
           along : (w : List ℕ) → IsWord d w → state_after (states_of rows) r w ≡ s → r ≡ s
           along [] h f = f
@@ -106,7 +106,7 @@ module _ (d : ℕ) (rows : List Row) (m : IsMinimal d rows) (numbers : List ℕ)
 
       -- a row that is not alone in its component moves
       pub other_moves : (s u : ℕ) → s < length rows → u < length rows → get_or numbers s 0 ≡ get_or numbers u 0 → s ≢ u → get_or moving s 0 ≢ 0
-      other_moves s u b c e ne z = let w = a.joined s u b c e in ne (sym (still_after s w.0 b w.1 z) ∙ w.2)
+      other_moves s u b c e ne z = let w = a.joined s u b c e in ne (sym (still_after s w.along b w.valid z) ∙ w.there)
 
       -- a row stays in its component at one letter at most
       pub one_letter : (s x y : ℕ) → s < length rows → get_or moving s 0 ≢ 0 → get_or returns s 0 ≤ 1 → IsLetter d x → IsLetter d y → next_component rows numbers s x ≡ get_or numbers s 0 → next_component rows numbers s y ≡ get_or numbers s 0 → x ≡ y

@@ -7,10 +7,10 @@ use Rattle.fr_machine.specs.declared.row.Row.{Row}
 use Rattle.fr_machine.specs.Rows.{states_of}
 use Rattle.fr_machine.specs.Minimal.{IsMinimal}
 use Rattle.fr_machine.proofs.RowLaws.{length-states_of}
-use Rattle.fr_growth.specs.Walks.{unmarked, live_words}
+use Rattle.fr_growth.specs.Walks.{unmarked}
 use Rattle.fr_growth.specs.Components.{AreComponents}
 use Rattle.fr_growth.specs.Levels.{AreMoving, AreReturns, AreLevels, stays, next_component}
-use Rattle.fr_growth.proofs.WalkLaws.{sum_letters-one}
+use Rattle.fr_growth.proofs.WalkLaws.{live_words, sum_letters-one}
 use Rattle.fr_growth.proofs.LayerLaws.{IsLayered, Falls, Turns}
 use Rattle.fr_growth.proofs.ChainLaws.{dead_stays_dead}
 use Rattle.fr_growth.proofs.RowLaws.{auto_next}

@@ -6,8 +6,8 @@ use Rattle.fr_model.specs.Words.{IsLetter, IsWord}
 use Rattle.fr_model.specs.Automata.{State, next_state, state_after}
 use Rattle.fr_model.specs.Activity.{Link}
 use Rattle.fr_model.proofs.TermLaws.{IsWord-append}
-use Rattle.fr_growth.specs.Walks.{sum_letters, live_words, IsStateChain}
-use Rattle.fr_growth.proofs.WalkLaws.{parts, state_after-append}
+use Rattle.fr_growth.specs.Walks.{sum_letters, IsStateChain}
+use Rattle.fr_growth.proofs.WalkLaws.{live_words, parts, state_after-append}
 
 -- ---- sums over letters
 pub sum_letters-le : (f : ℕ → ℕ) (k c : ℕ) → ((x : ℕ) → IsLetter k x → f x ≤ c) → sum_letters f k ≤ k * c

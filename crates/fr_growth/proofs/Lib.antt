@@ -2,6 +2,7 @@ pub mod TextLaws
 pub mod WalkLaws
 pub mod BitLaws
 pub mod RowLaws
+pub mod PathLaws
 pub mod KnotLaws
 pub mod LayerLaws
 pub mod CountLaws
@@ -13,6 +14,9 @@ pub mod LayerBridge
 pub mod WayLaws
 pub mod TameLaws
 pub mod ChainBuilding
-pub mod PairLaws
+pub mod DistanceLaws
+pub mod EdgeLaws
+pub mod PartLaws
+pub mod FoundLaws
 pub mod WordLaws
 pub mod TripleLaws

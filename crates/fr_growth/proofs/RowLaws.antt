@@ -2,7 +2,7 @@
 use Rattle.std.proofs.Common.{ℕ, ◌≡◌, ◌<◌, ◌⊎◌, inl, inr, ◌||◌, ◌&&◌, Bool, true, false, List, [], ◌∷◌, ◌++◌, length, refl, sym, ◌∙◌, ap}
 use Rattle.std.proofs.lemmas.Bool.{cases_order}
 use Rattle.fr_model.specs.Words.{IsLetter}
-use Rattle.fr_model.specs.Automata.{next_state, state_after}
+use Rattle.fr_model.specs.Automata.{next_state, state_after, IsReached}
 use Rattle.fr_model.specs.Terms.{IsAlike}
 use Rattle.fr_model.proofs.AlikeLaws.{alike_sym}
 use Rattle.fr_model.proofs.AutomatonLaws.{next_state-lt}
@@ -11,7 +11,6 @@ use Rattle.fr_machine.specs.declared.row.Row.{Row}
 use Rattle.fr_machine.specs.Rows.{states_of, row_term, IsMachine}
 use Rattle.fr_machine.specs.Minimal.{IsMinimal}
 use Rattle.fr_machine.proofs.RowLaws.{length-states_of, IsAutomaton-states_of}
-use Rattle.fr_growth.specs.Walks.{Reaches}
 use Rattle.fr_growth.proofs.WalkLaws.{state_after-append}
 
 -- ---- tests
@@ -43,14 +42,18 @@ pub after_row : (d : ℕ) (rows : List Row) (m : IsMachine d rows) (s : ℕ) (w 
 after_row d rows m s [] l = l
 after_row d rows m s (x ∷ w) l = after_row d rows m (next_state (states_of rows) s x) w (auto_next d rows m s x l)
 
-pub Reaches-self : (d : ℕ) (rows : List Row) (s : ℕ) → Reaches d rows s s
-Reaches-self d rows s = ([], tt, refl)
+pub IsReached-self : (d : ℕ) (rows : List Row) (s : ℕ) → IsReached d (states_of rows) s s
+IsReached-self d rows s = record { along = []; valid = tt; there = refl }
 
-pub Reaches-next : (d : ℕ) (rows : List Row) (s x t : ℕ) → IsLetter d x → t ≡ next_state (states_of rows) s x → Reaches d rows s t
-Reaches-next d rows s x t k e = (x ∷ [], (k, tt), sym e)
+pub IsReached-next : (d : ℕ) (rows : List Row) (s x t : ℕ) → IsLetter d x → t ≡ next_state (states_of rows) s x → IsReached d (states_of rows) s t
+IsReached-next d rows s x t k e = record { along = x ∷ []; valid = (k, tt); there = sym e }
 
-pub Reaches-trans : (d : ℕ) (rows : List Row) (s t u : ℕ) → Reaches d rows s t → Reaches d rows t u → Reaches d rows s u
-Reaches-trans d rows s t u v w = (v.0 ++ w.0, IsWord-append d v.0 w.0 v.1 w.1, state_after-append (states_of rows) s v.0 w.0 ∙ ap (λ z. state_after (states_of rows) z w.0) v.2 ∙ w.2)
+pub IsReached-trans : (d : ℕ) (rows : List Row) (s t u : ℕ) → IsReached d (states_of rows) s t → IsReached d (states_of rows) t u → IsReached d (states_of rows) s u
+IsReached-trans d rows s t u v w = record {
+  along = v.along ++ w.along;
+  valid = IsWord-append d v.along w.along v.valid w.valid;
+  there = state_after-append (states_of rows) s v.along w.along ∙ ap (λ z. state_after (states_of rows) z w.along) v.there ∙ w.there;
+}
 
 -- rows that act alike are one row
 pub rows_apart : (d : ℕ) (rows : List Row) → IsMinimal d rows → (s t : ℕ) → s < length rows → t < length rows → IsAlike (row_term rows s) (row_term rows t) → s ≡ t

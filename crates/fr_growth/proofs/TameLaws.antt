@@ -1,5 +1,7 @@
 -- The classes of a machine in which no moving row lies on two cycles.
-use Rattle.std.proofs.Common.{ℕ, suc, ◌+◌, ◌≡◌, ◌<◌, ◌≤◌, inl, inr, List, [], length, get_or, min, subst, arith}
+use Rattle.std.proofs.Common.{ℕ, suc, ◌+◌, ◌≡◌, ◌<◌, ◌≤◌, inl, inr, List, [], length, get_or, subst, arith}
+use Rattle.fr_growth.proofs.WalkLaws.{live_words}
+use Rattle.fr_growth.proofs.CountLaws.{list_live}
 use Rattle.fr_model.specs.Terms.{Section}
 use Rattle.fr_model.specs.Automata.{state_after}
 use Rattle.fr_model.specs.Activity.{IsFinitary, Link}
@@ -8,16 +10,15 @@ use Rattle.fr_machine.specs.declared.row.Row.{Row}
 use Rattle.fr_machine.specs.Rows.{states_of, row_term}
 use Rattle.fr_machine.proofs.RowLaws.{length-states_of}
 use Rattle.fr_machine.specs.Minimal.{IsMinimal}
-use Rattle.fr_growth.specs.Walks.{unmarked, live_words, IsStateChain}
+use Rattle.fr_growth.specs.Walks.{unmarked, IsStateChain}
 use Rattle.fr_growth.specs.Components.{AreComponents}
 use Rattle.fr_growth.specs.Levels.{AreMoving, AreReturns, AreLevels}
-use Rattle.fr_growth.specs.Tables.{list_live}
 use Rattle.fr_growth.specs.Growth.{IsPolynomialBy, HasPolynomialNumbers, HasFinitaryNumbers}
 use Rattle.fr_growth.proofs.LayerLaws.{IsLayered, live_words-end, dead_or_live}
 use Rattle.fr_growth.proofs.ChainLaws.{IsReduced, IsAt, at_section, dead_one, live_moves, polynomial_by, polynomial_numbers, finitary_numbers}
 use Rattle.fr_growth.proofs.LayerBridge.{level_at, numbers_rank, heights_rank, layered_rows, live_words-below}
 use Rattle.fr_growth.proofs.ComponentLaws.{reduced_rows}
-use Rattle.fr_growth.proofs.WayLaws.{counted_word, kth_word}
+use Rattle.fr_growth.proofs.WayLaws.{counted_word, first_word}
 
 module _ (d : ℕ) (rows : List Row) (m : IsMinimal d rows) (moving : List ℕ) (v : AreMoving rows moving) where
   abbrev pub red : IsReduced d (states_of rows) (unmarked moving)
@@ -35,8 +36,7 @@ module _ (d : ℕ) (rows : List Row) (m : IsMinimal d rows) (moving : List ℕ) 
           | inr q ↦ let c = counted_word d rows m moving 0 w h q in let c' = rw e at c in absurd (omega (arith, c', none))
         ];
     least = λ n l.
-        let some : 1 ≤ min 2 (live_words d (states_of rows) (unmarked moving) n 0) = omega (arith, first n l) in
-        let w = kth_word d rows m moving n 0 1 (omega arith) some in
+        let w = first_word d rows m moving n 0 (first n l) in
         let word = get_or (list_live d (states_of rows) (unmarked moving) n 0) 0 [] in (
           word,
           record {

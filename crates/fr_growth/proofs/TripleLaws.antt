@@ -16,8 +16,8 @@ use Rattle.fr_machine.proofs.RowLaws.{length-states_of}
 use Rattle.fr_growth.specs.Walks.{unmarked, sum_letters}
 use Rattle.fr_growth.specs.Components.{AreComponents}
 use Rattle.fr_growth.specs.Levels.{AreMoving, AreReturns, stays, next_component}
-use Rattle.fr_growth.specs.Doubling.{Doubles, AreDoubling, IsOnly, AreInside}
-use Rattle.fr_growth.specs.Layers.{is_marked, IsGoalWord, IsLeastWord, IsLeastPair, IsOpenEnough}
+use Rattle.fr_growth.specs.Doubling.{Doubles, AreDoubling, IsOnly}
+use Rattle.fr_growth.specs.Layers.{is_marked, IsGoalWord, IsLeastWord, IsLeastPair}
 use Rattle.fr_growth.specs.Growth.{HasExponentialNumbers}
 use Rattle.fr_growth.proofs.WalkLaws.{parts, parts_from_length, state_after-append}
 use Rattle.fr_growth.proofs.ChainLaws.{IsReduced, IsAt, at_section, same_state, same_term, live_moves, moves_live, exponential_numbers}
@@ -148,7 +148,7 @@ module _ (d : ℕ) (rows : List Row) (m : IsMinimal d rows) (moving : List ℕ) 
     pub at_enough : (s : ℕ) → s < length rows → 1 < get_or returns s 0 → (w : List ℕ) × IsGoalWord d rows goals 0 w × (length w ≤ 4096)
     at_enough s b two =
         let w = m.reached s b in
-        let p = short_way d rows m 0 s m.machine.least (w.0, w.1, w.2) in
+        let p = short_way d rows m 0 s m.machine.least (record { along = w.0; valid = w.1; there = w.2 }) in
         (p.0, record { valid = p.1.valid; there = ap (is_marked goals) p.1.leads ∙ (dm.right s b).1 (s, b, two, refl) }, omega (arith, p.1.most, m.small))
 
     module _ (at : List ℕ) (la : IsLeastWord d rows goals 0 at) where
@@ -181,14 +181,6 @@ module _ (d : ℕ) (rows : List Row) (m : IsMinimal d rows) (moving : List ℕ) 
               where
                 tails : ◌≡◌ {A = List ℕ} (x ∷ xs) (y ∷ ys) → xs ≡ ys
                 tails e = cc
-
-        pub back_open : (opens : List Bool) → AreInside (length rows) numbers (get_or numbers (state_after (states_of rows) 0 at) 0) opens → IsOpenEnough d rows opens home (state_after (states_of rows) 0 at)
-        back_open opens o w x k g =
-            let h = state_after (states_of rows) 0 at in
-            let q = state_after (states_of rows) h w in
-            let lt = after_row d rows m.machine h w b in
-            let to = eqb-true (state_after (states_of rows) q x) h (sym (hm.right (state_after (states_of rows) q x) (after_row d rows m.machine q x lt)) ∙ g.there) in
-            o.right q lt ∙ eq-eqb (get_or numbers q 0) (get_or numbers h 0) (same_component h q w x b lt k g.valid refl to)
 
         module _ (u w : List ℕ) (lp : IsLeastPair d rows home (state_after (states_of rows) 0 at) u w) where
           reds : IsReduced d (states_of rows) (unmarked moving)

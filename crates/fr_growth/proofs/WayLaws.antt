@@ -1,18 +1,17 @@
 -- Ways without a repeated row, which are short; and words that lead to a live row.
-use Rattle.std.proofs.Common.{ℕ, suc, ◌≡◌, ◌-◌, ◌<◌, ◌≤◌, ◌⊎◌, inl, inr, ◌||◌, Bool, true, false, List, [], ◌∷◌, length, get_or, refl, ap, arith, eqb}
+use Rattle.std.proofs.Common.{ℕ, suc, ◌≡◌, ◌<◌, ◌≤◌, ◌⊎◌, inl, inr, ◌||◌, Bool, true, false, List, [], ◌∷◌, length, get_or, refl, ap, arith, eqb}
 use Rattle.std.specs.List.{IsDistinct, list_any, AllByRecursion}
 use Rattle.std.proofs.lemmas.Bool.{both_ways, eqb-true}
 use Rattle.std.proofs.lemmas.Map.Steps.{length-le_from_distinct_below}
 use Rattle.fr_model.specs.Words.{IsWord}
-use Rattle.fr_model.specs.Automata.{State, next_state, state_after}
+use Rattle.fr_model.specs.Automata.{State, next_state, state_after, IsReached}
 use Rattle.fr_machine.specs.declared.row.Row.{Row}
 use Rattle.fr_machine.specs.Rows.{states_of}
 use Rattle.fr_machine.specs.Minimal.{IsMinimal}
-use Rattle.fr_growth.specs.Walks.{Reaches, unmarked}
-use Rattle.fr_growth.specs.Tables.{few_words, list_live}
+use Rattle.fr_growth.specs.Walks.{unmarked}
 use Rattle.fr_growth.specs.Chains.{IsWay}
-use Rattle.fr_growth.proofs.WalkLaws.{words_along}
-use Rattle.fr_growth.proofs.CountLaws.{LeadsLive, list_live-leads, length-list_live}
+use Rattle.fr_growth.proofs.WalkLaws.{live_words, words_along}
+use Rattle.fr_growth.proofs.CountLaws.{list_live, LeadsLive, list_live-leads, length-list_live}
 use Rattle.fr_growth.proofs.RowLaws.{auto_next, or_cases}
 
 -- the states along a word
@@ -77,20 +76,19 @@ module _ (d : ℕ) (rows : List Row) (m : IsMinimal d rows) where
     | inr f ↦ along_below (next_state (states_of rows) s x) w (auto_next d rows m.machine s x b) q f
   ]
 
-  pub short_way : (s t : ℕ) → s < length rows → Reaches d rows s t → (v : List ℕ) × IsWay d rows s t v
+  pub short_way : (s t : ℕ) → s < length rows → IsReached d (states_of rows) s t → (v : List ℕ) × IsWay d rows s t v
   short_way s t b r =
-      let w = simple_way d (states_of rows) t s r.0 r.1 r.2 in
+      let w = simple_way d (states_of rows) t s r.along r.valid r.there in
       let few = length-le_from_distinct_below (along (states_of rows) s w.0) (length rows) (distinct_once (along (states_of rows) s w.0) w.1.once) (along_below s w.0 b) in
       (w.0, record { valid = w.1.valid; leads = w.1.leads; most = omega (arith, few, length-along (states_of rows) s w.0) })
 
-  -- a word that leads to a marked row is counted
-  pub counted_word : (marks : List ℕ) (s : ℕ) (w : List ℕ) → IsWord d w → unmarked marks (state_after (states_of rows) s w) ≡ false → 1 ≤ few_words d rows marks (length w) s
-  counted_word marks s w h e =
-      let a = words_along d (states_of rows) (unmarked marks) (length w) 0 s w h (omega arith) in
+  -- a word that leads to a live row is counted
+  pub counted_word : (moving : List ℕ) (s : ℕ) (w : List ℕ) → IsWord d w → unmarked moving (state_after (states_of rows) s w) ≡ false → 1 ≤ live_words d (states_of rows) (unmarked moving) (length w) s
+  counted_word moving s w h e =
+      let a = words_along d (states_of rows) (unmarked moving) (length w) 0 s w h (omega arith) in
       let a' = rw e at a in
       omega (arith, a')
 
-  -- the k-th of the words
-  pub kth_word : (marks : List ℕ) (long s k : ℕ) → 1 ≤ k → k ≤ few_words d rows marks long s → LeadsLive d long (states_of rows) (unmarked marks) s (get_or (list_live d (states_of rows) (unmarked marks) long s) (k - 1) [])
-  kth_word marks long s k a b =
-      list_live-leads d (states_of rows) (unmarked marks) long s (k - 1) [] (omega (arith, length-list_live d (states_of rows) (unmarked marks) long s, b))
+  -- where a word is counted, the first of the list leads to a live row
+  pub first_word : (moving : List ℕ) (n s : ℕ) → 1 ≤ live_words d (states_of rows) (unmarked moving) n s → LeadsLive d n (states_of rows) (unmarked moving) s (get_or (list_live d (states_of rows) (unmarked moving) n s) 0 [])
+  first_word moving n s a = list_live-leads d (states_of rows) (unmarked moving) n s 0 [] (omega (arith, length-list_live d (states_of rows) (unmarked moving) n s, a))

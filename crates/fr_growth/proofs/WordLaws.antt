@@ -1,349 +1,377 @@
--- Layers of words: the next layer, and what the first goals of a layer are.
-use Rattle.std.proofs.Common.{ℕ, zero, suc, ◌≡◌, ◌≢◌, ◌+◌, ◌<◌, ◌≤◌, ◌⊎◌, inl, inr, Bool, true, List, [], ◌∷◌, ◌++◌, length, set, drop, refl, sym, ◌∙◌, ap, arith, length-append, append_assoc, add-one}
-use Rattle.std.proofs.Math.Seq.{drop-cons}
-use Rattle.std.proofs.lemmas.List.{length-set, get_or-set_same, drop-set-lt}
+-- The first and the second of the words of a length that lead to a goal.
+use Rattle.std.proofs.Common.{ℕ, zero, suc, ◌≡◌, ◌≢◌, ◌+◌, ◌-◌, ◌<◌, ◌≤◌, ◌⊎◌, inl, inr, Bool, true, false, List, [], ◌∷◌, ◌++◌, length, take, get_or, Option, Some, None, refl, sym, ◌∙◌, ap, arith, length-append, append_assoc}
+use Rattle.std.proofs.lemmas.List.{append-nil, length-take-le, take_more}
 use Rattle.std.proofs.lemmas.Bool.{cases_lt, cases_order, both_ways}
 use Rattle.fr_model.specs.Words.{IsLetter, IsWord}
-use Rattle.fr_model.specs.Automata.{next_state, state_after}
-use Rattle.fr_model.specs.Separation.{IsLexBefore, IsShortlexBefore}
+use Rattle.fr_model.specs.Automata.{State, next_state, state_after}
+use Rattle.fr_model.specs.Separation.{IsLexBefore}
 use Rattle.fr_model.proofs.TermLaws.{IsWord-append}
-use Rattle.fr_model.proofs.CanonicalLaws.{shortlex_irrefl, shortlex_trans}
+use Rattle.fr_model.proofs.CanonicalLaws.{lex_irrefl, lex_trans}
 use Rattle.fr_machine.specs.declared.row.Row.{Row}
 use Rattle.fr_machine.specs.Rows.{states_of}
 use Rattle.fr_machine.specs.Minimal.{IsMinimal}
-use Rattle.fr_growth.specs.declared.layers.Entry.{Entry}
-use Rattle.fr_growth.specs.Layers.{is_marked, IsGoalWord, IsLeastWord, IsLeastPair, IsOpenEnough, entry_at, trail, IsLayer, IsPairBefore, row_behind, AreAdded, AreLayers, IsFirstGoal, IsNoGoal, HasNoPair, IsFront}
+use Rattle.fr_growth.specs.declared.least.Branch.{Branch}
+use Rattle.fr_growth.specs.Bits.{has_bit}
+use Rattle.fr_growth.specs.Distances.{AreDistances}
+use Rattle.fr_growth.specs.Layers.{is_marked, IsGoalWord, IsLeastWord, IsLeastPair, HasWord, HasPair, set_at, AreSound, IsExact, IsLeastLetter, IsNoLetter, IsFirstWord, IsExtended, IsNearest, IsLater, IsBranch, IsLastBranch, IsSecondWord, AreFound}
+use Rattle.fr_growth.proofs.RowLaws.{auto_next, after_row}
 use Rattle.fr_growth.proofs.WalkLaws.{state_after-append}
-use Rattle.fr_growth.proofs.RowLaws.{auto_next}
-use Rattle.fr_growth.proofs.PairLaws.{added_size}
+use Rattle.fr_growth.proofs.FoundLaws.{IsGoalWord-behind}
 
--- ---- words that are longer by a letter
-lex_longer : (v w a b : List ℕ) → IsLexBefore v w → IsLexBefore (v ++ a) (w ++ b)
-lex_longer [] w a b h = absurd h
-lex_longer (x ∷ v) [] a b h = absurd h
-lex_longer (x ∷ v) (y ∷ w) a b (inl l) = inl l
-lex_longer (x ∷ v) (y ∷ w) a b (inr q) = inr (q.0, lex_longer v w a b q.1)
+-- ---- words in order
+lex-append : (v w a : List ℕ) → IsLexBefore v w → IsLexBefore (v ++ a) w
+lex-append [] w a h = absurd h
+lex-append (x ∷ v) [] a h = absurd h
+lex-append (x ∷ v) (y ∷ w) a (inl l) = inl l
+lex-append (x ∷ v) (y ∷ w) a (inr q) = inr (q.0, lex-append v w a q.1)
 
-lex_last : (v : List ℕ) (x y : ℕ) → x < y → IsLexBefore (v ++ x ∷ []) (v ++ y ∷ [])
-lex_last [] x y l = inl l
-lex_last (z ∷ v) x y l = inr (refl, lex_last v x y l)
+lex-prefix : (p v w : List ℕ) → IsLexBefore v w → IsLexBefore (p ++ v) (p ++ w)
+lex-prefix [] v w h = h
+lex-prefix (x ∷ p) v w h = inr (refl, lex-prefix p v w h)
 
--- a word that is not empty, as a word and a letter
-pub record IsEnded (d : ℕ) (w : List ℕ) : Type 0 where
-  pub word : List ℕ
-  pub letter : ℕ
-  pub is : w ≡ word ++ letter ∷ []
-  pub valid : IsWord d word
-  pub last : IsLetter d letter
+lex_at : (p v w : List ℕ) (a b : ℕ) → a < b → IsLexBefore (p ++ a ∷ v) (p ++ b ∷ w)
+lex_at [] v w a b l = inl l
+lex_at (x ∷ p) v w a b l = inr (refl, lex_at p v w a b l)
 
-ended : (d : ℕ) (x : ℕ) (w : List ℕ) → IsWord d (x ∷ w) → IsEnded d (x ∷ w)
-ended d x [] h = record { word = []; letter = x; is = refl; valid = tt; last = h.0 }
-ended d x (y ∷ w) h = let r = ended d y w h.1 in record { word = x ∷ r.word; letter = r.letter; is = ap (λ (z : List ℕ). x ∷ z) r.is; valid = (h.0, r.valid); last = r.last }
+lex_same : (u u' w w' : List ℕ) → u ≡ u' → w ≡ w' → IsLexBefore u' w' → IsLexBefore u w
+lex_same u u' w w' e f h = rw (e, f) h
 
-ended_long : (d k : ℕ) (w : List ℕ) → IsWord d w → length w ≡ suc k → IsEnded d w
-ended_long d k [] h e = absurd (omega arith)
-ended_long d k (x ∷ w) h e = ended d x w h
+-- where a word differs first from one that comes before it
+record IsSplit (u w : List ℕ) : Type 0 where
+  place : ℕ
+  below : place < length u
+  letter : ℕ
+  rest : List ℕ
+  is : w ≡ take place u ++ letter ∷ rest
+  greater : get_or u place 0 < letter
 
--- ---- the layer of the empty word
-pub layer_none : (d : ℕ) (rows : List Row) (goals : List Bool) (s : ℕ) (entries : List Entry) → entries ≡ record { before = 0; letter = 0; row = s } ∷ [] → IsLayer d rows goals s entries 0 0
-layer_none d rows goals s entries e = rw e (record {
-  rooted = λ i l. only i l;
-  valid = λ i l b. tt;
-  long = λ i l b. refl;
-  leads = λ i l b. at i b;
-  ordered = λ i j l k b. absurd (omega arith);
-  whole = λ w h f v g. inl (0, omega arith, omega arith, empty w f);
-})
-  where
-    only : (i : ℕ) → i < 1 → (entry_at (record { before = 0; letter = 0; row = s } ∷ []) i).before < 1
-    only zero l = omega arith
-    only (suc i) l = absurd (omega arith)
+lex_split : (u w : List ℕ) → IsLexBefore u w → IsSplit u w
+lex_split [] w h = absurd h
+lex_split (x ∷ u) [] h = absurd h
+lex_split (x ∷ u) (y ∷ w) (inl l) = record { place = 0; below = omega arith; letter = y; rest = w; is = refl; greater = l }
+lex_split (x ∷ u) (y ∷ w) (inr q) =
+    let r = lex_split u w q.1 in
+    record { place = suc r.place; below = omega (arith, r.below); letter = r.letter; rest = r.rest; is = ap (λ z. z ∷ w) (sym q.0) ∙ ap (λ z. x ∷ z) r.is; greater = r.greater }
 
-    at : (i : ℕ) → i < 1 → s ≡ (entry_at (record { before = 0; letter = 0; row = s } ∷ []) i).row
-    at zero l = refl
-    at (suc i) l = absurd (omega arith)
+-- the part of a word before a place, at an earlier place
+take_at : (u : List ℕ) (i j : ℕ) → i < j → j ≤ length u → (rest : List ℕ) × (take j u ≡ take i u ++ get_or u i 0 ∷ rest)
+take_at u i zero l m = absurd (omega arith)
+take_at [] i (suc j) l m = absurd (omega arith)
+take_at (x ∷ u) zero (suc j) l m = (take j u, refl)
+take_at (x ∷ u) (suc i) (suc j) l m = let r = take_at u i j (omega arith) (omega arith) in (r.0, ap (λ z. x ∷ z) r.1)
 
-    empty : (w : List ℕ) → length w ≡ 0 → [] ≡ w
-    empty [] e = refl
-    empty (x ∷ w) e = absurd (omega arith)
+take_all : (u : List ℕ) → take (length u) u ≡ u
+take_all [] = refl
+take_all (x ∷ u) = ap (λ z. x ∷ z) (take_all u)
 
-module _ (d : ℕ) (rows : List Row) (m : IsMinimal d rows) (goals opens : List Bool) (s : ℕ) (enough : IsOpenEnough d rows opens goals s) (b : s < length rows) (old : List Entry) (start k : ℕ) (h : IsLayer d rows goals s old start k) (below : (i : ℕ) → i < length old → (entry_at old i).row < length rows)
-    (new : List Entry) (counts : List ℕ) (stop : ℕ) (stop_is : stop ≡ length old) (a : AreAdded d rows opens start stop stop 1 new counts) (front : IsFront stop old new) where
-  trail-front : (j i : ℕ) → i < stop → trail new j i ≡ trail old j i
-  trail-front zero i l = refl
-  trail-front (suc j) i l =
-      let e = front i l in
-      let r : (entry_at old i).before < stop = omega (arith, h.rooted i (omega (arith, stop_is)), stop_is) in
-      rw (e, trail-front j (entry_at old i).before r) refl
+pub word_at : (d : ℕ) (w : List ℕ) (i : ℕ) → IsWord d w → i < length w → IsLetter d (get_or w i 0)
+word_at d [] i v l = absurd (omega arith)
+word_at d (x ∷ w) zero v l = v.0
+word_at d (x ∷ w) (suc i) v l = word_at d w i v.1 (omega arith)
 
-  trail_new : (i : ℕ) → stop ≤ i → i < length new → trail new (suc k) i ≡ trail old k (entry_at new i).before ++ (entry_at new i).letter ∷ []
-  trail_new i l c = ap (λ (z : List ℕ). z ++ (entry_at new i).letter ∷ []) (trail-front k (entry_at new i).before (a.from i l c).1)
+IsWord-take : (d i : ℕ) (w : List ℕ) → IsWord d w → IsWord d (take i w)
+IsWord-take d zero w v = tt
+IsWord-take d (suc i) [] v = tt
+IsWord-take d (suc i) (x ∷ w) v = (v.0, IsWord-take d i w v.1)
 
-  old_place : (f : ℕ) → f < stop → f < length old
-  old_place f l = omega (arith, stop_is)
+-- ---- goal words
+pub goal_before : (d : ℕ) (rows : List Row) (goals : List Bool) (s : ℕ) (p w : List ℕ) → IsWord d p → IsGoalWord d rows goals (state_after (states_of rows) s p) w → IsGoalWord d rows goals s (p ++ w)
+goal_before d rows goals s p w v g = record { valid = IsWord-append d p w v g.valid; there = ap (is_marked goals) (state_after-append (states_of rows) s p w) ∙ g.there }
 
-  pair_leads : (f y : ℕ) → start ≤ f → f < stop → state_after (states_of rows) s (trail old k f ++ y ∷ []) ≡ row_behind rows new f y
-  pair_leads f y l c =
-      state_after-append (states_of rows) s (trail old k f) (y ∷ []) ∙ ap (λ z. next_state (states_of rows) z y) (h.leads f l (old_place f c) ∙ ap (λ (z : Entry). z.row) (sym (front f c)))
+exact_next : (d : ℕ) (rows : List Row) (goals : List Bool) (sets : List (List ℕ)) (s k : ℕ) (p : List ℕ) → IsWord d p → IsExact d rows goals sets s (length p + k) → IsExact d rows goals sets (state_after (states_of rows) s p) k
+exact_next d rows goals sets s k p v h = λ q w c g e.
+    let at : state_after (states_of rows) (state_after (states_of rows) s p) q ≡ state_after (states_of rows) s (p ++ q) = sym (state_after-append (states_of rows) s p q) in
+    ap (has_bit (set_at sets (length w))) at ∙ h (p ++ q) w (IsWord-append d p q v c) (rw at at g) (omega (arith, length-append p q, e))
 
-  pair_lex : (e x f y : ℕ) → start ≤ e → e < stop → start ≤ f → f < stop → IsPairBefore e x f y → IsLexBefore (trail old k e ++ x ∷ []) (trail old k f ++ y ∷ [])
-  pair_lex e x f y l c g n (inl q) = lex_longer (trail old k e) (trail old k f) (x ∷ []) (y ∷ []) (h.ordered e f l q (old_place f n))
-  pair_lex e x f y l c g n (inr q) = rw q.0 (lex_last (trail old k f) x y q.1)
+-- a goal word begins with a letter into the set
+exact_letter : (d : ℕ) (rows : List Row) (goals : List Bool) (sets : List (List ℕ)) (s k a : ℕ) (w : List ℕ) → IsExact d rows goals sets s (k + 1) → IsGoalWord d rows goals s (a ∷ w) → length w ≡ k → has_bit (set_at sets k) (next_state (states_of rows) s a) ≡ true
+exact_letter d rows goals sets s k a w h g e = ap (λ z. has_bit (set_at sets z) (next_state (states_of rows) s a)) (sym e) ∙ h (a ∷ []) w (g.valid.0, tt) (record { valid = g.valid.1; there = g.there }) (omega (arith, e))
 
-  -- the word of a pair whose row leads on to a goal is among the new ones, or comes after two of them that lead to its row
-  abbrev Found : ℕ → List ℕ → Type 0
-  Found t w =
-      ((i : ℕ) × (stop ≤ i) × (i < length new) × (trail new (suc k) i ≡ w))
-      ⊎ ((i : ℕ) × (j : ℕ) × (stop ≤ i) × (i < j) × (j < length new) × ((entry_at new i).row ≡ t) × ((entry_at new j).row ≡ t) × IsLexBefore (trail new (suc k) j) w)
+-- ---- the first word, letter by letter
+pub record IsWalked (d : ℕ) (rows : List Row) (goals : List Bool) (sets : List (List ℕ)) (from long left row : ℕ) (old new : List ℕ) : Type 0 where
+  pub along : List ℕ
+  pub appended : new ≡ old ++ along
+  pub valid : IsWord d along
+  pub at : row ≡ state_after (states_of rows) from along
+  pub exact : length along + left ≡ long
+  pub onward : IsExact d rows goals sets row left
+  pub some : HasWord d rows goals row left
+  pub first : (w : List ℕ) → IsGoalWord d rows goals from w → length w ≡ long → ((r : List ℕ) × (w ≡ along ++ r)) ⊎ IsLexBefore along w
 
-  pair_found : (f y t : ℕ) → start ≤ f → f < stop → IsLetter d y → row_behind rows new f y ≡ t → is_marked opens t ≡ true → Found t (trail old k f ++ y ∷ [])
-  pair_found f y t l c g e o =
-      let open_row : is_marked opens (row_behind rows new f y) ≡ true = rw e o in
-      elim (a.taken f y l c g (inl c) open_row) as (λ _. Found t (trail old k f ++ y ∷ [])) [
-        | inl q ↦ inl (q.0, q.1, q.2, trail_new q.0 q.1 q.2 ∙ rw (q.3, q.4) refl)
-        | inr q ↦
-            let mj : stop ≤ q.1 = omega (arith, q.2, q.3) in
-            let b' = a.from q.1 mj q.4 in
-            inr (q.0, q.1, q.2, q.3, q.4, q.5 ∙ e, q.6 ∙ e, rw (trail_new q.1 mj q.4) (pair_lex (entry_at new q.1).before (entry_at new q.1).letter f y b'.0 b'.1 l c q.8))
-      ]
-
-  lex_trans : (u v w : List ℕ) → length u ≡ length v → length v ≡ length w → IsLexBefore u v → IsLexBefore v w → IsLexBefore u w
-  lex_trans u v w e f l g = elim (shortlex_trans u v w (inr (e, l)) (inr (f, g))) [ inl z ↦ absurd (omega arith) | inr z ↦ z.1 ]
-
-  long_new : (i : ℕ) → stop ≤ i → i < length new → length (trail new (suc k) i) ≡ suc k
-  long_new i l c =
-      let o = a.from i l c in
-      ap length (trail_new i l c) ∙ length-append (trail old k (entry_at new i).before) ((entry_at new i).letter ∷ []) ∙ (let z = h.long (entry_at new i).before o.0 (old_place (entry_at new i).before o.1) in omega (arith, z))
-
-  leads_new : (i : ℕ) → stop ≤ i → i < length new → state_after (states_of rows) s (trail new (suc k) i) ≡ (entry_at new i).row
-  leads_new i l c = let o = a.from i l c in rw (trail_new i l c) (pair_leads (entry_at new i).before (entry_at new i).letter o.0 o.1 ∙ sym (a.row i l c))
-
-  ordered_new : (i j : ℕ) → stop ≤ i → i < j → j < length new → IsLexBefore (trail new (suc k) i) (trail new (suc k) j)
-  ordered_new i j l n c =
-      let ci : i < length new = omega arith in
-      let mj : stop ≤ j = omega arith in
-      let oi = a.from i l ci in
-      let oj = a.from j mj c in
-      rw (trail_new i l ci, trail_new j mj c) (pair_lex (entry_at new i).before (entry_at new i).letter (entry_at new j).before (entry_at new j).letter oi.0 oi.1 oj.0 oj.1 (a.rising i j l n c))
-
-  -- two words that come one before the other and before w, and lead to its row
-  both_found : (w x y : List ℕ) (t : ℕ) → length x ≡ suc k → length y ≡ suc k → length w ≡ suc k → IsLexBefore x y → IsLexBefore y w → state_after (states_of rows) s x ≡ t → state_after (states_of rows) s y ≡ t → Found t x → Found t y → Found t w
-  both_found w x y t ex ey ew l g tx ty fx (inr q) =
-      let lj : stop ≤ q.1 = omega (arith, q.2, q.3) in
-      inr (q.0, q.1, q.2, q.3, q.4, q.5, q.6, lex_trans (trail new (suc k) q.1) y w (long_new q.1 lj q.4 ∙ sym ey) (ey ∙ sym ew) q.7 g)
-  both_found w x y t ex ey ew l g tx ty (inr q) (inl r) =
-      let lj : stop ≤ q.1 = omega (arith, q.2, q.3) in
-      inr (q.0, q.1, q.2, q.3, q.4, q.5, q.6, lex_trans (trail new (suc k) q.1) x w (long_new q.1 lj q.4 ∙ sym ex) (ex ∙ sym ew) q.7 (lex_trans x y w (ex ∙ sym ey) (ey ∙ sym ew) l g))
-  both_found w x y t ex ey ew l g tx ty (inl q) (inl r) = elim (cases_lt q.0 r.0) [
-    | inl less ↦ inr (
-      q.0,
-      r.0,
-      q.1,
-      less,
-      r.2,
-      sym (leads_new q.0 q.1 q.2) ∙ ap (state_after (states_of rows) s) q.3 ∙ tx,
-      sym (leads_new r.0 r.1 r.2) ∙ ap (state_after (states_of rows) s) r.3 ∙ ty,
-      rw r.3 g,
-    )
-    | inr more ↦ absurd (elim (cases_order q.0 r.0) [
-      | inl same ↦ irrefl x y l (sym q.3 ∙ ap (λ i. trail new (suc k) i) same ∙ r.3)
-      | inr o ↦
-          let back : IsLexBefore y x = rw (q.3, r.3) at (ordered_new r.0 q.0 r.1 (elim o [ inl z ↦ absurd (omega arith) | inr z ↦ z ]) q.2) in
-          irrefl x x (lex_trans x y x (ex ∙ sym ey) (ey ∙ sym ex) l back) refl
-    ])
-  ]
-    where
-      irrefl : (x y : List ℕ) → IsLexBefore x y → x ≡ y → ⊥
-      irrefl x y l e = shortlex_irrefl y (inr (refl, rw e at l))
-
-  every : (w : List ℕ) → IsWord d w → length w ≡ suc k → (v : List ℕ) → IsGoalWord d rows goals (state_after (states_of rows) s w) v → IsEnded d w → Found (state_after (states_of rows) s w) w
-  every w valid long v goal e =
-      let t = state_after (states_of rows) s w in
-      let o = enough w v valid goal in
-      let to : state_after (states_of rows) s w ≡ next_state (states_of rows) (state_after (states_of rows) s e.word) e.letter = ap (state_after (states_of rows) s) e.is ∙ state_after-append (states_of rows) s e.word (e.letter ∷ []) in
-      let p_long : length e.word ≡ k = omega (arith, long, ap length e.is, length-append e.word (e.letter ∷ [])) in
-      let goal' : IsGoalWord d rows goals (state_after (states_of rows) s e.word) (e.letter ∷ v) = record { valid = (e.last, goal.valid); there = rw to at goal.there } in
-      elim (h.whole e.word e.valid p_long (e.letter ∷ v) goal') as (λ _. Found (state_after (states_of rows) s w) w) [
-        | inl q ↦
-            let c : q.0 < stop = omega (arith, q.2, stop_is) in
-            let same : trail old k q.0 ++ e.letter ∷ [] ≡ w = ap (λ (z : List ℕ). z ++ e.letter ∷ []) q.3 ∙ sym e.is in
-            let row : row_behind rows new q.0 e.letter ≡ state_after (states_of rows) s w = sym (pair_leads q.0 e.letter q.1 c) ∙ ap (state_after (states_of rows) s) same in
-            rw same at (pair_found q.0 e.letter t q.1 c e.last row o)
-        | inr q ↦
-            let cj : q.1 < stop = omega (arith, q.4, stop_is) in
-            let ci : q.0 < stop = omega (arith, q.3, cj) in
-            let mj : start ≤ q.1 = omega (arith, q.2, q.3) in
-            let row_i : row_behind rows new q.0 e.letter ≡ state_after (states_of rows) s w = ap (λ (z : Entry). next_state (states_of rows) z.row e.letter) (front q.0 ci) ∙ ap (λ z. next_state (states_of rows) z e.letter) q.5 ∙ sym to in
-            let row_j : row_behind rows new q.1 e.letter ≡ state_after (states_of rows) s w = ap (λ (z : Entry). next_state (states_of rows) z.row e.letter) (front q.1 cj) ∙ ap (λ z. next_state (states_of rows) z e.letter) q.6 ∙ sym to in
-            let fi = pair_found q.0 e.letter t q.2 ci e.last row_i o in
-            let fj = pair_found q.1 e.letter t mj cj e.last row_j o in
-            let less : IsLexBefore (trail old k q.1 ++ e.letter ∷ []) w = rw e.is (lex_longer (trail old k q.1) e.word (e.letter ∷ []) (e.letter ∷ []) q.7) in
-            let between : IsLexBefore (trail old k q.0 ++ e.letter ∷ []) (trail old k q.1 ++ e.letter ∷ []) = lex_longer (trail old k q.0) (trail old k q.1) (e.letter ∷ []) (e.letter ∷ []) (h.ordered q.0 q.1 q.2 q.3 q.4) in
-            let long_i : length (trail old k q.0 ++ e.letter ∷ []) ≡ suc k = omega (arith, length-append (trail old k q.0) (e.letter ∷ []), h.long q.0 q.2 (old_place q.0 ci)) in
-            let long_j : length (trail old k q.1 ++ e.letter ∷ []) ≡ suc k = omega (arith, length-append (trail old k q.1) (e.letter ∷ []), h.long q.1 mj (old_place q.1 cj)) in
-            both_found w (trail old k q.0 ++ e.letter ∷ []) (trail old k q.1 ++ e.letter ∷ []) t long_i long_j long between less (pair_leads q.0 e.letter q.2 ci ∙ row_i) (pair_leads q.1 e.letter mj cj ∙ row_j) fi fj
-      ]
-
-  pub layer_more : IsLayer d rows goals s new stop (suc k)
-  layer_more = record {
-    rooted = λ i l. elim (cases_lt i stop) [
-      | inl q ↦ rw (front i q) (omega (arith, h.rooted i (old_place i q), stop_is, a.longer))
-      | inr q ↦ omega (arith, (a.from i q l).1, a.longer)
-    ];
-    valid = λ i l c. let o = a.from i l c in rw (trail_new i l c) (IsWord-append d (trail old k (entry_at new i).before) ((entry_at new i).letter ∷ []) (h.valid (entry_at new i).before o.0 (old_place (entry_at new i).before o.1)) (a.letter i l c, tt));
-    long = long_new;
-    leads = leads_new;
-    ordered = ordered_new;
-    whole = λ w valid long v goal. every w valid long v goal (ended_long d k w valid long);
-  }
-
-  pub rows_more : (i : ℕ) → i < length new → (entry_at new i).row < length rows
-  rows_more i l = elim (cases_lt i stop) [
-    | inl q ↦ rw (front i q) (below i (old_place i q))
-    | inr q ↦
-        let o = a.from i q l in
-        rw (a.row i q l) (auto_next d rows m.machine (entry_at new (entry_at new i).before).row (entry_at new i).letter (rw (front (entry_at new i).before o.1) (below (entry_at new i).before (old_place (entry_at new i).before o.1))))
-  ]
-
--- ---- the layers so far
-pub layers_more : (d : ℕ) (rows : List Row) (m : IsMinimal d rows) (goals opens : List Bool) (s : ℕ) (old new : List Entry) (start long stop : ℕ) (counts counts' : List ℕ) → IsOpenEnough d rows opens goals s → AreLayers d rows goals s old start long counts
-    → stop ≡ length old → AreAdded d rows opens start stop stop 1 new counts' → IsFront stop old new → AreLayers d rows goals s new stop (long + 1) counts'
-layers_more d rows m goals opens s old new start long stop counts counts' enough l e a front = record {
-  from_below = l.from_below;
-  last = rw add-one (layer_more d rows m goals opens s enough l.from_below old start long l.last l.rows_below new counts' stop e a front);
-  start_below = a.longer;
-  rows_below = rows_more d rows m goals opens s enough l.from_below old start long l.last l.rows_below new counts' stop e a front;
-  size = omega (arith, added_size d rows opens start stop stop 1 new counts' m.small a, l.size, e);
-  count = a.count;
+pub walked_none : (d : ℕ) (rows : List Row) (goals : List Bool) (sets : List (List ℕ)) (from long : ℕ) (old : List ℕ) → IsExact d rows goals sets from long → HasWord d rows goals from long → IsWalked d rows goals sets from long long from old old
+walked_none d rows goals sets from long old h w = record {
+  along = [];
+  appended = sym (append-nil old);
+  valid = tt;
+  at = refl;
+  exact = omega arith;
+  onward = h;
+  some = w;
+  first = λ v g e. inl (v, refl);
 }
 
--- ---- the first goals of a layer
-module _ (d : ℕ) (rows : List Row) (goals : List Bool) (s : ℕ) (entries : List Entry) (start k : ℕ) (h : IsLayer d rows goals s entries start k) where
-  -- a word of this length that leads to a goal is an entry, or comes after two entries with goals
-  goal_entry : (w : List ℕ) → IsGoalWord d rows goals s w → length w ≡ k
-      → ((i : ℕ) × (start ≤ i) × (i < length entries) × (is_marked goals (entry_at entries i).row ≡ true) × (trail entries k i ≡ w))
-      ⊎ ((i : ℕ) × (j : ℕ) × (start ≤ i) × (i < j) × (j < length entries) × (is_marked goals (entry_at entries i).row ≡ true) × (is_marked goals (entry_at entries j).row ≡ true) × IsLexBefore (trail entries k j) w)
-  goal_entry w g e = elim (h.whole w g.valid e [] (record { valid = tt; there = g.there })) [
-    | inl q ↦ inl (q.0, q.1, q.2, ap (is_marked goals) (sym (h.leads q.0 q.1 q.2) ∙ ap (state_after (states_of rows) s) q.3) ∙ g.there, q.3)
-    | inr q ↦ inr (q.0, q.1, q.2, q.3, q.4, ap (is_marked goals) q.5 ∙ g.there, ap (is_marked goals) q.6 ∙ g.there, q.7)
-  ]
+module _ (d : ℕ) (rows : List Row) (goals : List Bool) (m : IsMinimal d rows) (sets : List (List ℕ)) (sound : AreSound d rows goals sets) (from long k row : ℕ) (old new : List ℕ) (below : from < length rows) (small : k < length sets)
+    (h : IsWalked d rows goals sets from long (k + 1) row old new) where
+  row_below : row < length rows
+  row_below = rw h.at (after_row d rows m.machine from h.along below)
 
-  pub entry_word : (i : ℕ) → start ≤ i → i < length entries → is_marked goals (entry_at entries i).row ≡ true → IsGoalWord d rows goals s (trail entries k i)
-  entry_word i l b e = record { valid = h.valid i l b; there = ap (is_marked goals) (h.leads i l b) ∙ e }
+  pub walked_below : row < length rows
+  walked_below = row_below
 
-  pub no_word : IsNoGoal goals entries start → (w : List ℕ) → IsGoalWord d rows goals s w → length w ≢ k
-  no_word none w g e = elim (goal_entry w g e) [
-    | inl q ↦ both_ways (is_marked goals (entry_at entries q.0).row) (none q.0 q.1 q.2) q.3
-    | inr q ↦ both_ways (is_marked goals (entry_at entries q.0).row) (none q.0 q.2 (omega (arith, q.3, q.4))) q.5
-  ]
-
-  earlier_lex : (i j : ℕ) → start ≤ i → i < j → j < length entries → IsLexBefore (trail entries k i) (trail entries k j)
-  earlier_lex i j l c g = h.ordered i j l c g
-
-  -- an entry whose row is a goal stands at the first such place or behind it
-  not_before : (i place : ℕ) → IsFirstGoal goals entries i place → (j : ℕ) → i ≤ j → is_marked goals (entry_at entries j).row ≡ true → place ≤ j
-  not_before i place f j l e = elim (cases_lt j place) [ inl z ↦ absurd (both_ways (is_marked goals (entry_at entries j).row) (f.first j l z) e) | inr z ↦ z ]
-
-  pub least_of : (place : ℕ) → IsFirstGoal goals entries start place → ((w : List ℕ) → length w < k → ¬ IsGoalWord d rows goals s w) → IsLeastWord d rows goals s (trail entries k place)
-  least_of place f shorter = record {
-    word = entry_word place f.from f.below f.marked;
-    least = λ v g less. elim less [
-      | inl l ↦ shorter v (omega (arith, l, h.long place f.from f.below)) g
-      | inr q ↦ elim (goal_entry v g (q.0 ∙ h.long place f.from f.below)) [
-        | inl r ↦ after place r.0 f.from r.1 r.2 (not_before start place f r.0 r.1 r.3) v r.4 q.1 q.0
-        | inr r ↦
-            let far : place < r.1 = omega (arith, not_before start place f r.0 r.2 r.5, r.3) in
-            loop (trail entries k place) v (trail entries k r.1) (h.ordered place r.1 f.from far r.4) r.7 q.1 (h.long place f.from f.below ∙ sym (h.long r.1 (omega (arith, r.2, r.3)) r.4)) (h.long r.1 (omega (arith, r.2, r.3)) r.4 ∙ sym (q.0 ∙ h.long place f.from f.below))
-      ]
-    ];
-  }
+  -- some letter leads on
+  pub walked_some : IsNoLetter d rows (set_at sets k) row 1 → ⊥
+  walked_some none = begins h.some.word h.some.goal h.some.exact
     where
-      loop : (x v y : List ℕ) → IsLexBefore x y → IsLexBefore y v → IsLexBefore v x → length x ≡ length y → length y ≡ length v → ⊥
-      loop x v y a b c e f =
-          let g : IsShortlexBefore x v = shortlex_trans x y v (inr (e, a)) (inr (f, b)) in
-          shortlex_irrefl x (shortlex_trans x v x g (inr (sym f ∙ sym e, c)))
+      begins : (w : List ℕ) → IsGoalWord d rows goals row w → length w ≡ k + 1 → ⊥
+      begins [] g e = omega (arith, e)
+      begins (a ∷ w) g e = both_ways (has_bit (set_at sets k) (next_state (states_of rows) row a)) (none a g.valid.0.0 g.valid.0) (exact_letter d rows goals sets row k a w h.onward g (omega (arith, e)))
 
-      after : (place i : ℕ) → start ≤ place → start ≤ i → i < length entries → place ≤ i → (v : List ℕ) → trail entries k i ≡ v → IsLexBefore v (trail entries k place) → length v ≡ length (trail entries k place) → ⊥
-      after place i a b c l v e q long = elim (cases_order place i) [
-        | inl same ↦ shortlex_irrefl v (inr (refl, rw (ap (λ z. trail entries k z) same ∙ e) at q))
-        | inr o ↦
-            let less : place < i = elim o [ inl z ↦ z | inr z ↦ absurd (omega arith) ] in
-            let up : IsLexBefore (trail entries k place) v = rw e at (h.ordered place i a less c) in
-            shortlex_irrefl v (shortlex_trans v (trail entries k place) v (inr (long, q)) (inr (sym long, up)))
+  module _ (x : ℕ) (l : IsLeastLetter d rows (set_at sets k) row 1 x) where
+    continues : (w : List ℕ) (r : List ℕ) → IsGoalWord d rows goals row r → length r ≡ k + 1 → w ≡ h.along ++ r → ((q : List ℕ) × (w ≡ (h.along ++ x ∷ []) ++ q)) ⊎ IsLexBefore (h.along ++ x ∷ []) w
+    continues w [] g e f = absurd (omega (arith, e))
+    continues w (a ∷ r) g e f = elim (cases_order a x) [
+      | inl same ↦ inl (r, f ∙ ap (λ z. h.along ++ z ∷ r) same ∙ sym (append_assoc h.along (x ∷ []) r))
+      | inr o ↦ elim o [
+        | inl less ↦ absurd (both_ways (has_bit (set_at sets k) (next_state (states_of rows) row a)) (l.first a g.valid.0.0 less g.valid.0) (exact_letter d rows goals sets row k a r h.onward g (omega (arith, e))))
+        | inr more ↦ inr (rw f (lex_at h.along [] r x a more))
       ]
-
-  lex_between : (x y v : List ℕ) → length x ≡ length y → length y ≡ length v → IsLexBefore x y → IsLexBefore y v → IsLexBefore x v
-  lex_between x y v e f a b = elim (shortlex_trans x y v (inr (e, a)) (inr (f, b))) [ inl z ↦ absurd (omega arith) | inr z ↦ z.1 ]
-
-  -- no two words of this length, where one goal or none is among the entries
-  pub no_two : (place : ℕ) → IsFirstGoal goals entries start place → IsNoGoal goals entries (place + 1) → (x y : List ℕ) → IsGoalWord d rows goals s x → IsGoalWord d rows goals s y → x ≢ y → length x ≡ k → length y ≡ k → ⊥
-  no_two place f none x y gx gy ne ex ey = elim (goal_entry x gx ex) [
-    | inr r ↦ behind r.0 r.1 r.2 r.3 r.4 r.5 r.6
-    | inl q ↦ elim (goal_entry y gy ey) [
-      | inr r ↦ behind r.0 r.1 r.2 r.3 r.4 r.5 r.6
-      | inl r ↦ ne (sym q.4 ∙ ap (λ i. trail entries k i) (same q.0 q.1 q.2 q.3 ∙ sym (same r.0 r.1 r.2 r.3)) ∙ r.4)
     ]
-  ]
-    where
-      behind : (i j : ℕ) → start ≤ i → i < j → j < length entries → is_marked goals (entry_at entries i).row ≡ true → is_marked goals (entry_at entries j).row ≡ true → ⊥
-      behind i j l c b e g = both_ways (is_marked goals (entry_at entries j).row) (none j (omega (arith, not_before start place f i l e)) b) g
 
-      same : (i : ℕ) → start ≤ i → i < length entries → is_marked goals (entry_at entries i).row ≡ true → i ≡ place
-      same i l b e = elim (cases_lt place i) [
-        | inl z ↦ absurd (both_ways (is_marked goals (entry_at entries i).row) (none i (omega arith) b) e)
-        | inr z ↦ omega (arith, not_before start place f i l e)
-      ]
+    pub walked_more : IsWalked d rows goals sets from long k (next_state (states_of rows) row x) old (new ++ x ∷ [])
+    walked_more = record {
+      along = h.along ++ x ∷ [];
+      appended = ap (λ z. z ++ x ∷ []) h.appended ∙ append_assoc old h.along (x ∷ []);
+      valid = IsWord-append d h.along (x ∷ []) h.valid (l.letter, tt);
+      at = ap (λ z. next_state (states_of rows) z x) h.at ∙ sym (state_after-append (states_of rows) from h.along (x ∷ []));
+      exact = omega (arith, length-append h.along (x ∷ []), h.exact);
+      onward = exact_next d rows goals sets row k (x ∷ []) (l.letter, tt) (let at : k + 1 ≡ length (x ∷ []) + k = omega arith in rw (← at) h.onward);
+      some = sound k (next_state (states_of rows) row x) small (auto_next d rows m.machine row x row_below) l.inside;
+      first = λ w g e. elim (h.first w g e) [
+        | inr z ↦ inr (lex-append h.along w (x ∷ []) z)
+        | inl q ↦
+            let r = IsGoalWord-behind d rows goals from h.along q.0 (rw (← q.1) g) in
+            continues w q.0 (rw h.at r.1) (omega (arith, ap length q.1, length-append h.along q.0, h.exact, e)) q.1
+      ];
+    }
 
-  pub pair_of : (i j : ℕ) → IsFirstGoal goals entries start i → IsFirstGoal goals entries (i + 1) j
-      → ((x y : List ℕ) → IsGoalWord d rows goals s x → IsGoalWord d rows goals s y → x ≢ y → length x ≡ length y → length x < k → ⊥) → IsLeastPair d rows goals s (trail entries k i) (trail entries k j)
-  pair_of i j f g shorter =
-      let sj : start ≤ j = omega (arith, f.from, g.from) in
-      let li = h.long i f.from f.below in
-      let lj = h.long j sj g.below in
+pub walked_all : (d : ℕ) (rows : List Row) (goals : List Bool) (sets : List (List ℕ)) (from long left row : ℕ) (old new : List ℕ) → left ≤ 0 → IsWalked d rows goals sets from long left row old new → IsExtended d rows goals from long old new
+walked_all d rows goals sets from long left row old new z h = (
+  h.along,
+  h.appended,
+  record {
+    word = record { valid = h.valid; there = ap (is_marked goals) (sym h.at) ∙ empty h.some.word h.some.goal (omega (arith, h.some.exact)) };
+    exact = omega (arith, h.exact);
+    first = λ w g e. elim (h.first w g e) [ inr l ↦ inr l | inl q ↦ inl (q.1 ∙ no_more q.0 (omega (arith, ap length q.1, length-append h.along q.0, h.exact, e))) ];
+  },
+)
+  where
+    empty : (w : List ℕ) → IsGoalWord d rows goals row w → length w ≤ 0 → is_marked goals row ≡ true
+    empty [] g l = g.there
+    empty (a ∷ w) g l = absurd (omega arith)
+
+    no_more : (r : List ℕ) → length r ≤ 0 → h.along ++ r ≡ h.along
+    no_more [] l = append-nil h.along
+    no_more (a ∷ r) l = absurd (omega arith)
+
+-- ---- the second word
+module _ (d : ℕ) (rows : List Row) (goals : List Bool) (m : IsMinimal d rows) (sets : List (List ℕ)) (sound : AreSound d rows goals sets) (from : ℕ) (below : from < length rows) (first : List ℕ) (size : length first + 1 ≡ length sets)
+    (exact : IsExact d rows goals sets from (length first)) (f : IsFirstWord d rows goals from (length first) first) where
+  -- another word makes a later letter
+  later_of : (w : List ℕ) → IsGoalWord d rows goals from w → length w ≡ length first → (s : IsSplit first w) → IsLater d rows sets from first s.place s.letter
+  later_of w g e s =
+      let p = take s.place first in
+      let r = IsGoalWord-behind d rows goals from p (s.letter ∷ s.rest) (rw (← s.is) g) in
+      let long : length p ≡ s.place = length-take-le s.place first (omega (arith, s.below)) in
+      let k : length s.rest ≡ length first - s.place - 1 = omega (arith, ap length s.is, length-append p (s.letter ∷ s.rest), long, e) in
+      let at : length first ≡ length p + (length first - s.place - 1 + 1) = omega (arith, long, s.below) in
+      let on = exact_next d rows goals sets from (length first - s.place - 1 + 1) p r.0 (rw at at exact) in
       record {
-        first = entry_word i f.from f.below f.marked;
-        second = entry_word j sj g.below g.marked;
-        one_length = li ∙ sym lj;
-        ordered = h.ordered i j f.from (omega (arith, g.from)) g.below;
-        first_two = λ w gw e. elim (goal_entry w gw (e ∙ li)) as (λ _. (w ≡ trail entries k i) ⊎ ((w ≡ trail entries k j) ⊎ IsLexBefore (trail entries k j) w)) [
-          | inl q ↦ elim (cases_lt i q.0) as (λ _. (w ≡ trail entries k i) ⊎ ((w ≡ trail entries k j) ⊎ IsLexBefore (trail entries k j) w)) [
-            | inr z ↦ inl (sym q.4 ∙ ap (λ n. trail entries k n) (let same : q.0 ≡ i = omega (arith, not_before start i f q.0 q.1 q.3, z) in same))
-            | inl z ↦ elim (cases_lt j q.0) as (λ _. (w ≡ trail entries k i) ⊎ ((w ≡ trail entries k j) ⊎ IsLexBefore (trail entries k j) w)) [
-              | inl y ↦ inr (inr (rw q.4 at (h.ordered j q.0 sj y q.2)))
-              | inr y ↦ inr (inl (sym q.4 ∙ ap (λ n. trail entries k n) (let same : q.0 ≡ j = omega (arith, not_before (i + 1) j g q.0 (omega arith) q.3, y) in same)))
-            ]
-          ]
-          | inr r ↦
-              let far : i < r.1 = omega (arith, not_before start i f r.0 r.2 r.5, r.3) in
-              let at_least : j ≤ r.1 = not_before (i + 1) j g r.1 (omega (arith, far)) r.6 in
-              inr (inr (elim (cases_lt j r.1) [
-                | inl y ↦ lex_between (trail entries k j) (trail entries k r.1) w (lj ∙ sym (h.long r.1 (omega (arith, r.2, r.3)) r.4)) (h.long r.1 (omega (arith, r.2, r.3)) r.4 ∙ sym (e ∙ li)) (h.ordered j r.1 sj y r.4) r.7
-                | inr y ↦ rw (let same : j ≡ r.1 = omega (arith, at_least, y) in same) r.7
-              ]))
-        ];
-        least = λ x y gx gy ne e. elim (cases_lt (length x) k) [ inl z ↦ absurd (shorter x y gx gy ne e z) | inr z ↦ omega (arith, z, li) ];
+        letter = r.1.valid.0;
+        greater = s.greater;
+        inside = exact_letter d rows goals sets (state_after (states_of rows) from p) (length first - s.place - 1) s.letter s.rest on r.1 k;
       }
 
-  -- no goal of this length either
-  pub none_more : IsNoGoal goals entries start → ((w : List ℕ) → length w < k → ¬ IsGoalWord d rows goals s w) → (w : List ℕ) → length w < k + 1 → ¬ IsGoalWord d rows goals s w
-  none_more none shorter w l g = elim (cases_lt (length w) k) [ inl z ↦ shorter w z g | inr z ↦ no_word none w g (omega arith) ]
-
-  -- no pair of this length either
-  pub no_pair_more : HasNoPair goals entries start → ((x y : List ℕ) → IsGoalWord d rows goals s x → IsGoalWord d rows goals s y → x ≢ y → length x ≡ length y → length x < k → ⊥)
-      → (x y : List ℕ) → IsGoalWord d rows goals s x → IsGoalWord d rows goals s y → x ≢ y → length x ≡ length y → length x < k + 1 → ⊥
-  no_pair_more none shorter x y gx gy ne e l = elim (cases_lt (length x) k) [
-    | inl z ↦ shorter x y gx gy ne e z
-    | inr z ↦ elim none [
-      | inl q ↦ no_word q x gx (omega arith)
-      | inr q ↦ no_two q.0 q.1 q.2 x y gx gy ne (omega arith) (omega (arith, e))
+  pub branch_some : HasPair d rows goals from (length first) → ((i x : ℕ) → i < length first → ¬ IsLater d rows sets from first i x) → ⊥
+  branch_some h none = elim (f.first h.one h.one_goal h.one_exact) [
+    | inr l ↦ let s = lex_split first h.one l in none s.place s.letter s.below (later_of h.one h.one_goal h.one_exact s)
+    | inl e ↦ elim (f.first h.other h.other_goal h.other_exact) [
+      | inr l ↦ let s = lex_split first h.other l in none s.place s.letter s.below (later_of h.other h.other_goal h.other_exact s)
+      | inl e' ↦ h.differ (e ∙ sym e')
     ]
   ]
 
--- ---- a word that is written from its end
-pub rest_more : (entries : List Entry) (k j at place x before : ℕ) (word : List ℕ) → j < length word → x ≡ (entry_at entries at).letter → before ≡ (entry_at entries at).before → trail entries k place ≡ trail entries (j + 1) at ++ drop (j + 1) word
-    → trail entries k place ≡ trail entries j before ++ drop j (set word j x)
-rest_more entries k j at place x before word l e f h =
-    let h' : trail entries k place ≡ (trail entries j (entry_at entries at).before ++ (entry_at entries at).letter ∷ []) ++ drop (suc j) word = rw add-one at h in
-    let split : drop j (set word j x) ≡ x ∷ drop (suc j) (set word j x) = drop-cons (set word j x) j 0 (rw length-set l) ∙ ap (λ z. z ∷ drop (suc j) (set word j x)) (get_or-set_same word j x 0 l) in
-    let same : drop (suc j) (set word j x) ≡ drop (suc j) word = drop-set-lt (suc j) word j x (omega arith) in
-    h' ∙ append_assoc (trail entries j (entry_at entries at).before) ((entry_at entries at).letter ∷ []) (drop (suc j) word) ∙ rw (split, same, e, f) refl
+  module _ (b : Branch) (h : IsBranch d rows sets from first (length first) b) where
+    abbrev p : List ℕ
+    p = take b.place first
+
+    abbrev left : ℕ
+    left = length first - b.place - 1
+
+    abbrev next : ℕ
+    next = next_state (states_of rows) (state_after (states_of rows) from p) b.letter
+
+    p_valid : IsWord d p
+    p_valid = IsWord-take d b.place first f.word.valid
+
+    p_long : length p ≡ b.place
+    p_long = length-take-le b.place first (omega (arith, h.below))
+
+    behind : state_after (states_of rows) from (p ++ b.letter ∷ []) ≡ next
+    behind = state_after-append (states_of rows) from p (b.letter ∷ [])
+
+    pub next_below : next < length rows
+    next_below = auto_next d rows m.machine (state_after (states_of rows) from p) b.letter (after_row d rows m.machine from p below)
+
+    pub left_below : left < length sets
+    left_below = omega (arith, size)
+
+    pub next_some : HasWord d rows goals next left
+    next_some = sound left next left_below next_below h.later.inside
+
+    pub next_exact : IsExact d rows goals sets next left
+    next_exact =
+        let q = p ++ b.letter ∷ [] in
+        let at : length first ≡ length q + left = omega (arith, length-append p (b.letter ∷ []), p_long, h.below) in
+        rw behind at (exact_next d rows goals sets from left q (IsWord-append d p (b.letter ∷ []) p_valid (h.later.letter, tt)) (rw at at exact))
+
+    module _ (e : List ℕ) (t : IsFirstWord d rows goals next left e) where
+      abbrev word : List ℕ
+      word = (p ++ b.letter ∷ []) ++ e
+
+      word_is : word ≡ p ++ b.letter ∷ e
+      word_is = append_assoc p (b.letter ∷ []) e
+
+      after_first : (w : List ℕ) → IsGoalWord d rows goals from w → length w ≡ length first → IsSplit first w → (w ≡ word) ⊎ IsLexBefore word w
+      after_first w g k s = elim (h.last s.place s.letter s.below (later_of w g k s)) [
+        | inl early ↦
+            let r = take_at first s.place b.place early (omega (arith, h.below)) in
+            let at : word ≡ take s.place first ++ get_or first s.place 0 ∷ (r.0 ++ b.letter ∷ e) = word_is ∙ ap (λ z. z ++ b.letter ∷ e) r.1 ∙ append_assoc (take s.place first) (get_or first s.place 0 ∷ r.0) (b.letter ∷ e) in
+            inr (lex_same word (take s.place first ++ get_or first s.place 0 ∷ (r.0 ++ b.letter ∷ e)) w (take s.place first ++ s.letter ∷ s.rest) at s.is (lex_at (take s.place first) (r.0 ++ b.letter ∷ e) s.rest (get_or first s.place 0) s.letter s.greater))
+        | inr here ↦
+            let is : w ≡ p ++ s.letter ∷ s.rest = s.is ∙ ap (λ z. take z first ++ s.letter ∷ s.rest) here.0 in
+            elim (cases_lt b.letter s.letter) [
+              | inl less ↦ inr (lex_same word (p ++ b.letter ∷ e) w (p ++ s.letter ∷ s.rest) word_is is (lex_at p e s.rest b.letter s.letter less))
+              | inr more ↦
+                  let same : s.letter ≡ b.letter = omega (arith, here.1) in
+                  let is' : w ≡ (p ++ b.letter ∷ []) ++ s.rest = is ∙ ap (λ z. p ++ z ∷ s.rest) same ∙ sym (append_assoc p (b.letter ∷ []) s.rest) in
+                  let r = IsGoalWord-behind d rows goals from (p ++ b.letter ∷ []) s.rest (rw is' at g) in
+                  elim (t.first s.rest (rw behind at r.1) (omega (arith, ap length is', length-append (p ++ b.letter ∷ []) s.rest, length-append p (b.letter ∷ []), p_long, k))) [
+                    | inl z ↦ inl (is' ∙ ap (λ y. (p ++ b.letter ∷ []) ++ y) z)
+                    | inr z ↦ inr (lex_same word word w ((p ++ b.letter ∷ []) ++ s.rest) refl is' (lex-prefix (p ++ b.letter ∷ []) e s.rest z))
+                  ]
+            ]
+      ]
+
+      pub second_is : IsSecondWord d rows goals from first word
+      second_is = record {
+        word = goal_before d rows goals from (p ++ b.letter ∷ []) e (IsWord-append d p (b.letter ∷ []) p_valid (h.later.letter, tt)) (rw behind t.word);
+        exact = omega (arith, length-append (p ++ b.letter ∷ []) e, length-append p (b.letter ∷ []), p_long, t.exact, h.below);
+        ordered = before first (get_or first b.place 0) (take_at first b.place (length first) h.below (omega arith)).0 (sym (take_all first) ∙ (take_at first b.place (length first) h.below (omega arith)).1) h.later.greater;
+        second = λ w g k. elim (f.first w g k) [
+          | inl z ↦ inl z
+          | inr l ↦ inr (after_first w g k (lex_split first w l))
+        ];
+      }
+        where
+          before : (u : List ℕ) (a : ℕ) (r : List ℕ) → u ≡ p ++ a ∷ r → a < b.letter → IsLexBefore u word
+          before u a r is l = lex_same u (p ++ a ∷ r) word (p ++ b.letter ∷ e) is word_is (lex_at p r e a b.letter l)
+
+-- ---- the last branch, place by place
+module _ (d : ℕ) (rows : List Row) (sets : List (List ℕ)) (from : ℕ) (first : List ℕ) where
+  pub branch_none : IsLastBranch d rows sets from first 0 None
+  branch_none = λ i x l. absurd (omega arith)
+
+  module _ (k row : ℕ) (at : row ≡ state_after (states_of rows) from (take k first)) where
+    pub branch_here : (old : Option Branch) (x : ℕ) → IsLastBranch d rows sets from first k old → IsLeastLetter d rows (set_at sets (length first - k - 1)) row (get_or first k 0 + 1) x
+        → IsLastBranch d rows sets from first (k + 1) (Some (record { place = k; letter = x; row = row }))
+    branch_here old x h l = record {
+      below = omega arith;
+      row = at;
+      later = record { letter = l.letter; greater = omega (arith, l.from); inside = rw (← at) l.inside };
+      last = λ i y b t. elim (cases_lt i k) [
+        | inl less ↦ inl less
+        | inr more ↦
+            let same : i ≡ k = omega arith in
+            let t' = rw same at t in
+            inr (
+              same,
+              elim (cases_lt y x) [
+                | inr le ↦ le
+                | inl lt ↦ absurd (both_ways (has_bit (set_at sets (length first - k - 1)) (next_state (states_of rows) row y)) (l.first y (omega (arith, t'.greater)) lt t'.letter) (rw at t'.inside))
+              ],
+            )
+      ];
+    }
+
+    nowhere : IsNoLetter d rows (set_at sets (length first - k - 1)) row (get_or first k 0 + 1) → (y : ℕ) → IsLater d rows sets from first k y → ⊥
+    nowhere n y t = both_ways (has_bit (set_at sets (length first - k - 1)) (next_state (states_of rows) row y)) (n y (omega (arith, t.greater)) t.letter) (rw at t.inside)
+
+    pub branch_keep : (old : Option Branch) → IsLastBranch d rows sets from first k old → IsNoLetter d rows (set_at sets (length first - k - 1)) row (get_or first k 0 + 1) → IsLastBranch d rows sets from first (k + 1) old
+    branch_keep None h n = λ i y l t. elim (cases_lt i k) [
+      | inl less ↦ h i y less t
+      | inr more ↦ (let same : i ≡ k = omega arith in nowhere n y (rw same at t))
+    ]
+    branch_keep (Some b) h n = record {
+      below = omega (arith, h.below);
+      row = h.row;
+      later = h.later;
+      last = λ i y l t. elim (cases_lt i k) [
+        | inl less ↦ h.last i y less t
+        | inr more ↦ (let same : i ≡ k = omega arith in absurd (nowhere n y (rw same at t)))
+      ];
+    }
+
+pub take_next : (qs : List State) (from k : ℕ) (first : List ℕ) → k < length first → state_after qs from (take (k + 1) first) ≡ next_state qs (state_after qs from (take k first)) (get_or first k 0)
+take_next qs from k first l = ap (state_after qs from) (take_more first k 0 l) ∙ state_after-append qs from (take k first) (get_or first k 0 ∷ [])
+
+-- ---- the least word and the least pair
+pub least_of : (d : ℕ) (rows : List Row) (goals : List Bool) (s most : ℕ) (sets : List (List ℕ)) → IsNearest d rows goals s most → AreFound d rows goals s most sets → (e : List ℕ) → IsFirstWord d rows goals s (length sets - 1) e → IsLeastWord d rows goals s e
+least_of d rows goals s most sets n f e t = record {
+  word = t.word;
+  least = λ v g b. elim b [
+    | inl l ↦ omega (arith, n.least v g, l, t.exact, f.most)
+    | inr q ↦ elim (t.first v g (q.0 ∙ t.exact)) [ inl z ↦ lex_irrefl e (rw z at q.1) | inr z ↦ lex_irrefl e (lex_trans e v e z q.1) ]
+  ];
+}
+
+pub long_of : (d : ℕ) (rows : List Row) (goals : List Bool) (s most : ℕ) (sets : List (List ℕ)) → IsNearest d rows goals s most → AreFound d rows goals s most sets → HasWord d rows goals s (length sets - 1)
+long_of d rows goals s most sets n f = elim f.cause [
+  | inl z ↦ let at : length sets - 1 ≡ most = omega (arith, z) in rw at n.word
+  | inr h ↦ record { word = h.one; goal = h.one_goal; exact = h.one_exact }
+]
+
+pub pair_of : (d : ℕ) (rows : List Row) (goals : List Bool) (s most : ℕ) (sets : List (List ℕ)) → AreFound d rows goals s most sets → (x y : List ℕ) → IsGoalWord d rows goals s x → IsGoalWord d rows goals s y → x ≢ y → length x ≡ length y → length x ≤ most → HasPair d rows goals s (length sets - 1)
+pair_of d rows goals s most sets f x y gx gy n e l = elim f.cause [
+  | inr h ↦ h
+  | inl z ↦
+      let at : length x ≡ length sets - 1 = omega (arith, z, f.none x y gx gy n e, l) in
+      record { one = x; other = y; one_goal = gx; other_goal = gy; differ = n; one_exact = at; other_exact = omega (arith, at, e) }
+]
+
+pub least_pair_of : (d : ℕ) (rows : List Row) (goals : List Bool) (s most : ℕ) (sets : List (List ℕ)) → AreFound d rows goals s most sets → (u w : List ℕ) → IsFirstWord d rows goals s (length sets - 1) u → IsSecondWord d rows goals s u w → IsLeastPair d rows goals s u w
+least_pair_of d rows goals s most sets f u w t q = record {
+  first = t.word;
+  second = q.word;
+  one_length = sym q.exact;
+  ordered = q.ordered;
+  first_two = λ v g e. q.second v g e;
+  least = λ x y gx gy n e. omega (arith, t.exact, f.none x y gx gy n e);
+}
+
+-- ---- the nearest goal
+pub nearest_of : (d : ℕ) (rows : List Row) (goals : List Bool) (from : ℕ) (order values : List ℕ) → AreDistances d rows from order values → (i row long : ℕ) → i < length order → row ≡ get_or order i 0 → is_marked goals row ≡ true → long ≡ get_or values row 0
+    → ((j : ℕ) → j < i → is_marked goals (get_or order j 0) ≡ false) → IsNearest d rows goals from long
+nearest_of d rows goals from order values dist i row long l r marked v before =
+    let real = dist.real i l in
+    record {
+      word = record { word = real.along; goal = record { valid = real.valid; there = ap (is_marked goals) (real.there ∙ sym r) ∙ marked }; exact = real.exact ∙ ap (λ z. get_or values z 0) (sym r) ∙ sym v };
+      least = λ w g.
+          let j = dist.whole w g.valid in
+          elim (cases_lt j.0 i) [
+            | inl less ↦ absurd (both_ways (is_marked goals (get_or order j.0 0)) (before j.0 less) (ap (is_marked goals) j.2 ∙ g.there))
+            | inr more ↦ omega (arith, v, ap (λ z. get_or values z 0) r, dist.rising i j.0 more j.1, ap (λ z. get_or values z 0) j.2, dist.least w g.valid)
+          ];
+    }
+
+pub nearest_some : (d : ℕ) (rows : List Row) (goals : List Bool) (from : ℕ) (order values : List ℕ) → AreDistances d rows from order values → (w : List ℕ) → IsGoalWord d rows goals from w → ((j : ℕ) → j < length order → is_marked goals (get_or order j 0) ≡ false) → ⊥
+nearest_some d rows goals from order values dist w g none = let j = dist.whole w g.valid in both_ways (is_marked goals (get_or order j.0 0)) (none j.0 j.1) (ap (is_marked goals) j.2 ∙ g.there)

@@ -1,4 +1,4 @@
--- What a class says of a term, by cases.
+-- What an answered class says of a term, by cases. The classes are Sidki's; the certificates are this project's own.
 use Rattle.std.specs.Prelude.{ℕ}
 use Rattle.fr_model.specs.Terms.{Term}
 use Rattle.fr_model.specs.Activity.{IsFinitary, IsLeastTriple}
@@ -6,7 +6,7 @@ use Rattle.fr_growth.specs.Growth.{IsPolynomialBy, HasPolynomialNumbers, HasExpo
 use Rattle.fr_growth.specs.declared.growth_class.Class.{Class}
 use Rattle.fr_growth.specs.declared.growth_class.Class.TheVariants.{Finitary, Polynomial, Exponential}
 
--- the class of the term, with what shows it
+-- the depth is the least, the degree is exact and has its chain, the triple is the least
 abbrev pub IsClass : ℕ → Term → Class → Type 0
 IsClass d t (Finitary depth) = IsFinitary d t depth
 IsClass d t (Polynomial degree chain) = IsPolynomialBy d t degree chain.items

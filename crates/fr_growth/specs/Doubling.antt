@@ -20,13 +20,3 @@ pub record AreDoublingNumbers (n k : ℕ) (numbers returns : List ℕ) (marks : 
 pub record IsOnly (n t : ℕ) (marks : List Bool) : Type 0 where
   pub count : length marks ≡ n
   pub right : (s : ℕ) → s < n → is_marked marks s ≡ (s == t)
-
--- the marks of the rows of one component
-pub record AreInside (n : ℕ) (numbers : List ℕ) (c : ℕ) (marks : List Bool) : Type 0 where
-  pub count : length marks ≡ n
-  pub right : (s : ℕ) → s < n → is_marked marks s ≡ (slice_index numbers s == c)
-
--- the marks of all rows
-pub record AreAll (n : ℕ) (marks : List Bool) : Type 0 where
-  pub count : length marks ≡ n
-  pub right : (s : ℕ) → s < n → is_marked marks s ≡ true

@@ -1,4 +1,5 @@
--- The class of growth of a term with its certificate, and the numbers that a certificate tells.
+-- The degree of a term with its chain, and the numbers that certificates tell: bounds on how many words of each length a
+-- term is active at. The classes are Sidki's; the certificates and their bounds are this project's own.
 use Rattle.std.specs.Prelude.{ℕ, ◌≡◌, ◌+◌, ◌*◌, ◌^◌, ◌≤◌, ◌↔◌, List, [], ◌∷◌, length}
 use Rattle.fr_model.specs.Terms.{Term}
 use Rattle.fr_model.specs.Activity.{IsActivity, Link, IsChain, HasDegree}
@@ -9,11 +10,12 @@ pub record IsPolynomialBy (d : ℕ) (t : Term) (k : ℕ) (links : List Link) : T
   pub count : length links ≡ k + 1
   pub chain : IsChain d t links
 
--- the letters on the ways from link to link, and the product of the lengths of the cycles
+-- the letters on the ways from link to link
 abbrev pub ways : List Link → ℕ
 ways [] = 0
 ways (l ∷ ls) = length l.at + ways ls
 
+-- the product of the lengths of the cycles
 abbrev pub rounds : List Link → ℕ
 rounds [] = 1
 rounds (l ∷ ls) = length l.back * rounds ls
@@ -22,16 +24,18 @@ rounds (l ∷ ls) = length l.back * rounds ls
 abbrev pub IsCounted : ℕ → Term → Type 0
 IsCounted d t = (n : ℕ) → (c : ℕ) × IsActivity d n t c
 
--- what a chain tells of the counts of a term with so many sections
+-- of a term with so many sections: an upper bound at each length, and a lower bound at lengths that the chain tells
 pub record HasPolynomialNumbers (d size : ℕ) (t : Term) (k : ℕ) (links : List Link) : Type 0 where
   pub counted : IsCounted d t
   pub most : (n c : ℕ) → IsActivity d n t c → c ≤ (d + 1) ^ size * (n + 1) ^ k
   pub least : (j c : ℕ) → IsActivity d (ways links + (k + 1) * j * rounds links) t c → (j + 1) ^ k ≤ c
 
+-- a lower bound at lengths that the triple tells
 pub record HasExponentialNumbers (d : ℕ) (t : Term) (at u : List ℕ) : Type 0 where
   pub counted : IsCounted d t
   pub least : (j c : ℕ) → IsActivity d (length at + j * length u) t c → 2 ^ j ≤ c
 
+-- no active word exactly from the depth on
 pub record HasFinitaryNumbers (d : ℕ) (t : Term) (depth : ℕ) : Type 0 where
   pub counted : IsCounted d t
   pub none : (n : ℕ) → IsActivity d n t 0 ↔ (depth ≤ n)

@@ -2,12 +2,11 @@
 -- (Gabow, Path-based depth-first search for strong and biconnected components).
 use Rattle.std.specs.Prelude.{ℕ, ◌≡◌, ◌<◌, ◌≤◌, ◌+◌, ◌-◌, ◌*◌, ◌⊎◌, true, false, List, [], length, slice_index, slice_index_or}
 use Rattle.fr_model.specs.Words.{IsLetter}
-use Rattle.fr_model.specs.Automata.{next_state}
+use Rattle.fr_model.specs.Automata.{next_state, IsReached}
 use Rattle.fr_machine.specs.declared.row.Row.{Row}
 use Rattle.fr_machine.specs.Rows.{states_of}
 use Rattle.fr_growth.specs.declared.knots.Knot.{Knot}
 use Rattle.fr_growth.specs.declared.knots.Descent.{Descent}
-use Rattle.fr_growth.specs.Walks.{Reaches}
 use Rattle.fr_growth.specs.Bits.{has_bit, rank_of}
 
 -- a row of a knot
@@ -29,7 +28,7 @@ pub record AreNexts (d : ℕ) (rows : List Row) (k : Knot) : Type 0 where
 
 -- the knots of the path: each leads to itself and to the later ones, and no two share a row
 pub record IsPath (d : ℕ) (rows : List Row) (knots : List Knot) (seen done : List ℕ) : Type 0 where
-  pub linked : (i j u v : ℕ) → i ≤ j → j < length knots → IsIn rows (knot_at knots i) u → IsIn rows (knot_at knots j) v → Reaches d rows u v
+  pub linked : (i j u v : ℕ) → i ≤ j → j < length knots → IsIn rows (knot_at knots i) u → IsIn rows (knot_at knots j) v → IsReached d (states_of rows) u v
   pub nexts : (i : ℕ) → i < length knots → AreNexts d rows (knot_at knots i)
   pub inside : (i u : ℕ) → i < length knots → u < 1024 → has_bit (knot_at knots i).members u ≡ true → u < length rows
   pub apart : (i j u : ℕ) → i < j → j < length knots → IsIn rows (knot_at knots i) u → ¬ IsIn rows (knot_at knots j) u
@@ -41,7 +40,7 @@ pub record AreNumbered (d : ℕ) (rows : List Row) (done numbers order : List �
   pub size : length numbers ≡ length rows
   pub closed : (u x : ℕ) → u < length rows → has_bit done u ≡ true → IsLetter d x → has_bit done (next_state (states_of rows) u x) ≡ true
   pub falls : (u x : ℕ) → u < length rows → has_bit done u ≡ true → IsLetter d x → slice_index numbers (next_state (states_of rows) u x) ≤ slice_index numbers u
-  pub joined : (u v : ℕ) → u < length rows → v < length rows → has_bit done u ≡ true → has_bit done v ≡ true → slice_index numbers u ≡ slice_index numbers v → Reaches d rows u v
+  pub joined : (u v : ℕ) → u < length rows → v < length rows → has_bit done u ≡ true → has_bit done v ≡ true → slice_index numbers u ≡ slice_index numbers v → IsReached d (states_of rows) u v
   pub below : (u : ℕ) → u < length rows → has_bit done u ≡ true → slice_index numbers u < count
   pub ordered : (i : ℕ) → i < length order → (slice_index order i < length rows) × (has_bit done (slice_index order i) ≡ true)
   pub whole : (u : ℕ) → u < length rows → has_bit done u ≡ true → (i : ℕ) × (i < length order) × (slice_index order i ≡ u)

@@ -1,5 +1,5 @@
--- Marks on rows, and levels of components. The growth of an automaton is read off how its cycles lie behind each other in
--- Sidki's paper; the levels that count them are this project's own.
+-- Marks on rows, and levels of components. That growth is read off how cycles lie behind each other is Sidki's (on the
+-- growth of automorphisms of one-rooted trees); the levels that count them are this project's own.
 use Rattle.std.specs.Prelude.{ℕ, ◌≡◌, ◌≢◌, ◌+◌, ◌<◌, ◌≤◌, ◌⊎◌, ◌↔◌, ◌==◌, Bool, if◌then◌else◌, List, length, slice_index}
 use Rattle.fr_model.specs.Words.{IsLetter}
 use Rattle.fr_model.specs.Automata.{next_state}

@@ -4,8 +4,9 @@ pub mod Bits
 pub mod Components
 pub mod Knots
 pub mod Levels
-pub mod Tables
 pub mod Chains
+pub mod Distances
+pub mod Edges
 pub mod Layers
 pub mod Doubling
 pub mod Classes

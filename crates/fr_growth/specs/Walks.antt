@@ -1,14 +1,8 @@
--- Walks through the states of an automaton: how many words of a length lead to a live state, and chains of cycles.
-use Rattle.std.specs.Prelude.{ℕ, zero, suc, ◌≡◌, ◌≢◌, ◌+◌, ◌==◌, Bool, false, if◌then◌else◌, List, [], ◌∷◌, slice_index}
+-- Chains of cycles of an automaton, as states in place of sections (Sidki, on the growth of activity).
+use Rattle.std.specs.Prelude.{ℕ, zero, suc, ◌≡◌, ◌≢◌, ◌+◌, ◌==◌, Bool, false, List, [], ◌∷◌, slice_index}
 use Rattle.fr_model.specs.Words.{IsWord}
-use Rattle.fr_model.specs.Automata.{State, next_state, state_after}
+use Rattle.fr_model.specs.Automata.{State, state_after}
 use Rattle.fr_model.specs.Activity.{Link}
-use Rattle.fr_machine.specs.declared.row.Row.{Row}
-use Rattle.fr_machine.specs.Rows.{states_of}
-
--- some word leads from s to t
-abbrev pub Reaches : ℕ → List Row → ℕ → ℕ → Type 0
-Reaches d rows s t = (w : List ℕ) × IsWord d w × (state_after (states_of rows) s w ≡ t)
 
 -- the rows outside a list of marks
 abbrev pub unmarked : List ℕ → ℕ → Bool
@@ -18,11 +12,6 @@ unmarked marks s = slice_index marks s == 0
 abbrev pub sum_letters : (ℕ → ℕ) → ℕ → ℕ
 sum_letters f zero = 0
 sum_letters f (suc k) = sum_letters f k + f (suc k)
-
--- how many words of length n lead from s to a state that is not dead
-abbrev pub live_words : ℕ → List State → (ℕ → Bool) → ℕ → ℕ → ℕ
-live_words d qs dead zero s = if dead s then 0 else 1
-live_words d qs dead (suc n) s = sum_letters (λ x. live_words d qs dead n (next_state qs s x)) d
 
 -- no word leads from the head of the chain back to h
 abbrev pub NoWayBack : ℕ → List State → ℕ → List Link → Type 0

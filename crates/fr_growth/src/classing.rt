@@ -9,9 +9,9 @@ ghost use Rattle.fr_growth.specs.Classes.{IsClass, HasNumbers};
 use crate::chaining::find_chain;
 use crate::growth_class::Class;
 use crate::knots::{Components, find_components};
-use crate::layers::{least_pair, least_word};
+use crate::least::{least_pair, least_word};
 use crate::leveling::find_levels;
-use crate::marking::{component_rows, doubling_rows, every_row, one_row};
+use crate::marking::{doubling_rows, one_row};
 use crate::rows::{moving_rows, returns};
 use fr_alphabet::{NoMemory, Word};
 use fr_machine::Minimal;
@@ -92,13 +92,11 @@ fn triple(
     let machine = m.machine();
     let n = m.size();
     let doubling = doubling_rows(alloc, numbers, returns)?;
-    let all = every_row(alloc, n)?;
-    let letters = least_word(alloc, m, &all, &doubling, 0)?;
+    let letters = least_word(alloc, m, &doubling, 0)?;
     let at = Word::of_letters(letters);
     let h = machine.section(0, &at);
-    let inside = component_rows(alloc, numbers, numbers[h as usize])?;
     let home = one_row(alloc, n, h)?;
-    let backs = least_pair(alloc, m, &inside, &home, h)?;
+    let backs = least_pair(alloc, m, &home, h)?;
     Ok(Class::Exponential {
         at,
         u: Word::of_letters(backs.first),

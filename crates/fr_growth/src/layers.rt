@@ -1,234 +1,185 @@
-//! The least words that lead from a row to others.
+//! The rows from which words of each length lead to a goal.
 
-ghost use Rattle.std.specs.Prelude.{◌≡◌, ◌≢◌, ℕ, ◌+◌, ◌<◌, ◌≤◌, MatchOption, ◌^◌, Bool, IfOk, OnOk, List, length};
-ghost use Rattle.fr_growth.specs.Layers.{IsGoalWord, IsLeastWord, IsLeastPair, IsOpenEnough, AreLayers, AreAdded, IsFirstGoal, IsNoGoal, HasNoPair, IsFront, IsOffered, AreRooted, entry_at, trail};
+ghost use Rattle.std.specs.Prelude.{◌≡◌, ℕ, ◌+◌, ◌-◌, ◌<◌, ◌≤◌, false, [], IfOk, OnOk, length};
+ghost use Rattle.fr_growth.specs.Distances.{AreDistances};
+ghost use Rattle.fr_growth.specs.Edges.{AreEdges};
+ghost use Rattle.fr_growth.specs.Bits.{has_bit};
+ghost use Rattle.fr_growth.specs.Layers.{AreGoals, IsEntered, IsPart, IsToFirst, IsLowered, AreWithWords, AreFound};
 
+use crate::bits::{BitRow, has, put};
+use crate::distances::Distances;
+use crate::edges::Edges;
 use fr_alphabet::NoMemory;
 use fr_machine::Minimal;
 use std::alloc::Global;
 
-/// A word: that of an earlier entry, and one letter more.
-#[derive(Clone, Copy)]
-struct Entry {
-    before: u32,
-    letter: u8,
-    row: u16,
-}
-
-/// Words of one length after the other that lead from a row, at most two to each row.
+/// The rows from which words of one length lead to a goal.
 #[derive(Drop)]
-struct Layers {
-    entries: Vec<Entry>,
-    // Where the last layer begins.
-    start: usize,
-    // The length of its words.
-    long: u16,
-    // How many words of the layer that was made last lead to each row.
-    counts: Vec<u8>,
+struct Layer {
+    set: BitRow,
+    // The same rows.
+    rows: Vec<u16>,
+    // The first letter of a word of each of them.
+    letters: Vec<u8>,
 }
 
-/// Two words.
-#[derive(Drop)]
-pub struct Pair {
-    /// The first.
-    pub first: Vec<u8>,
-    /// The second.
-    pub second: Vec<u8>,
-}
-
-/// The shortlex least word that leads from a row to a goal, along open rows. The only error is want of memory.
-pub fn least_word(
-    alloc: Global,
-    m: &Minimal,
-    opens: &[bool],
-    goals: &[bool],
-    from: u16,
-) -> Result<Vec<u8>, NoMemory>
-    requires row { from < length m.now.rows }
-    requires opens { length opens.now ≡ length m.now.rows }
-    requires goals { length goals.now ≡ length m.now.rows }
-    requires enough { IsOpenEnough m.now.alphabet m.now.rows opens.now goals.now from }
-    requires some { (w : List ℕ) × IsGoalWord m.now.alphabet m.now.rows goals.now from w × (length w ≤ 4096) }
-    ensures word { IfOk result (λ w. IsLeastWord m.now.alphabet m.now.rows goals.now from w.items) }
-    ensures most { IfOk result (λ w. length w.items ≤ 4096) }
-{
-    let _known = m.machine();
-    let mut layers = Layers::new(alloc, m, from)?;
-    loop {
-        if let Some(place) = layers.goal_from(goals, layers.start) {
-            return layers.word(alloc, place);
-        }
-        layers.add(m, opens)?;
-    }
-}
-
-/// The first and the second of the words that lead from a row to a goal, along open rows, of the least length that has
-/// two. The only error is want of memory.
-pub fn least_pair(
-    alloc: Global,
-    m: &Minimal,
-    opens: &[bool],
-    goals: &[bool],
-    from: u16,
-) -> Result<Pair, NoMemory>
-    requires row { from < length m.now.rows }
-    requires opens { length opens.now ≡ length m.now.rows }
-    requires goals { length goals.now ≡ length m.now.rows }
-    requires enough { IsOpenEnough m.now.alphabet m.now.rows opens.now goals.now from }
-    requires some { (x : List ℕ) × (y : List ℕ) × IsGoalWord m.now.alphabet m.now.rows goals.now from x × IsGoalWord m.now.alphabet m.now.rows goals.now from y × (x ≢ y) × (length x ≡ length y) × (length x ≤ 4096) }
-    ensures pair { IfOk result (λ p. IsLeastPair m.now.alphabet m.now.rows goals.now from p.first.items p.second.items) }
-    ensures most { IfOk result (λ p. length p.first.items ≤ 4096) }
-{
-    let _known = m.machine();
-    let mut layers = Layers::new(alloc, m, from)?;
-    loop {
-        if let Some((first, second)) = layers.goal_pair(goals) {
-            return Ok(Pair {
-                first: layers.word(alloc, first)?,
-                second: layers.word(alloc, second)?,
-            });
-        }
-        layers.add(m, opens)?;
-    }
-}
-
-impl Layers {
-    // The layer of the empty word.
-    fn new(alloc: Global, m: &Minimal, from: u16) -> Result<Layers, NoMemory>
-        requires { from < length m.now.rows }
-        ensures start { IfOk result (λ l. l.start ≡ 0) }
-        ensures long { IfOk result (λ l. l.long ≡ 0) }
-        ensures layers { IfOk result (λ l. (goals : List Bool) → AreLayers m.now.alphabet m.now.rows goals from l.entries.items l.start l.long l.counts.items) }
+impl Layer {
+    // No rows, of so many in all.
+    fn new(alloc: Global, count: usize) -> Result<Layer, NoMemory>
+        ensures set { IfOk result (λ l. (u : ℕ) → u < 1024 → has_bit l.set u ≡ false) }
+        ensures rows { IfOk result (λ l. l.rows.items ≡ []) }
+        ensures letters { IfOk result (λ l. length l.letters.items ≡ count) }
     {
-        let _known = m.machine();
-        let mut entries = Vec::new(alloc);
-        entries.push(Entry {
-            before: 0,
-            letter: 0,
-            row: from,
-        })?;
-        Ok(Layers {
-            entries,
-            start: 0,
-            long: 0,
-            counts: vec![in alloc; 0u8; m.size() as usize]?,
+        Ok(Layer {
+            set: [0; 16],
+            rows: Vec::with_capacity(alloc, count)?,
+            letters: vec![in alloc; 0u8; count]?,
         })
     }
 
-    // Adds the layer of the next length.
-    fn add(&mut self, m: &Minimal, opens: &[bool]) -> Result<(), NoMemory>
-        requires opens { length opens.now ≡ length m.now.rows }
-        requires most { self.old.long < 4096 }
-        requires layers { (goals : List Bool) × (from : ℕ) × AreLayers m.now.alphabet m.now.rows goals from self.old.entries.items self.old.start self.old.long self.old.counts.items }
-        ensures long { OnOk result (self.new.long ≡ self.old.long + 1) }
-        ensures layers { OnOk result ((goals : List Bool) (from : ℕ) → AreLayers m.now.alphabet m.now.rows goals from self.old.entries.items self.old.start self.old.long self.old.counts.items → IsOpenEnough m.now.alphabet m.now.rows opens.now goals from
-            → AreLayers m.now.alphabet m.now.rows goals from self.new.entries.items self.new.start self.new.long self.new.counts.items) }
+    // The goals, which are the rows with the empty word.
+    fn of_goals(alloc: Global, goals: &[bool]) -> Result<Layer, NoMemory>
+        requires { length goals.now ≤ 1024 }
+        ensures { IfOk result (λ l. AreGoals goals.now l.set l.rows.items) }
     {
-        let _known = m.machine();
-        let end = self.entries.len();
-        self.counts.fill(0);
-        for e in self.start..end {
-            self.add_behind(m, opens, e, end)?;
-        }
-        self.start = end;
-        self.long += 1;
-        Ok(())
-    }
-
-    // Adds the words that lead on by a letter from an entry of the last layer, which ends before `end`.
-    fn add_behind(
-        &mut self,
-        m: &Minimal,
-        opens: &[bool],
-        e: usize,
-        end: usize,
-    ) -> Result<(), NoMemory>
-        requires opens { length opens.now ≡ length m.now.rows }
-        requires start { self.old.start ≤ e }
-        requires end { e < end }
-        requires most { end < 2 ^ 32 }
-        requires row { (entry_at self.old.entries.items e).row < length m.now.rows }
-        requires added { AreAdded m.now.alphabet m.now.rows opens.now self.old.start end e 1 self.old.entries.items self.old.counts.items }
-        ensures start { self.new.start ≡ self.old.start }
-        ensures long { self.new.long ≡ self.old.long }
-        ensures front { OnOk result (IsFront end self.old.entries.items self.new.entries.items) }
-        ensures added { OnOk result (AreAdded m.now.alphabet m.now.rows opens.now self.new.start end (e + 1) 1 self.new.entries.items self.new.counts.items) }
-    {
-        let machine = m.machine();
-        let row = self.row_of(e);
-        for x in 0..machine.alphabet().letters() {
-            let next = machine.next(row, x + 1);
-            self.offer(opens, e, x + 1, next)?;
-        }
-        Ok(())
-    }
-
-    // Adds the word that leads on from an entry by a letter to a row, if the row is open and has not two words yet.
-    fn offer(&mut self, opens: &[bool], e: usize, letter: u8, row: u16) -> Result<(), NoMemory>
-        requires entry { e < 2 ^ 32 }
-        requires opens { row < length opens.now }
-        requires counts { row < length self.old.counts.items }
-        ensures start { self.new.start ≡ self.old.start }
-        ensures long { self.new.long ≡ self.old.long }
-        ensures offered { OnOk result (IsOffered opens.now self.old.entries.items self.old.counts.items e letter row self.new.entries.items self.new.counts.items) }
-    {
-        if !opens[row as usize] || self.counts[row as usize] >= 2 {
-            return Ok(());
-        }
-        self.counts[row as usize] += 1;
-        self.entries.push(Entry {
-            before: e as u32,
-            letter,
-            row,
-        })?;
-        Ok(())
-    }
-
-    // The row of an entry.
-    fn row_of(&self, i: usize) -> u16
-        requires { i < length self.now.entries.items }
-        ensures { result ≡ (entry_at self.now.entries.items i).row }
-    {
-        self.entries[i].row
-    }
-
-    // The first entry from a place on whose row is a goal.
-    fn goal_from(&self, goals: &[bool], from: usize) -> Option<usize>
-        requires goals { (i : ℕ) → i < length self.now.entries.items → (entry_at self.now.entries.items i).row < length goals.now }
-        ensures { MatchOption result (IsNoGoal goals.now self.now.entries.items from) (λ i. IsFirstGoal goals.now self.now.entries.items from i) }
-    {
-        for i in from..self.entries.len() {
-            if goals[self.entries[i].row as usize] {
-                return Some(i);
+        let mut layer = Layer::new(alloc, goals.len())?;
+        for s in 0..goals.len() {
+            if goals[s] {
+                layer.enter(s as u16, 0)?;
             }
         }
-        None
+        Ok(layer)
     }
 
-    // The first two entries of the last layer whose rows are goals.
-    fn goal_pair(&self, goals: &[bool]) -> Option<(usize, usize)>
-        requires goals { (i : ℕ) → i < length self.now.entries.items → (entry_at self.now.entries.items i).row < length goals.now }
-        ensures { MatchOption result (HasNoPair goals.now self.now.entries.items self.now.start) (λ p. IsFirstGoal goals.now self.now.entries.items self.now.start p.0 × IsFirstGoal goals.now self.now.entries.items (p.0 + 1) p.1) }
+    // Enters a row with the first letter of a word. The answer is whether the row is there already, with another letter.
+    fn enter(&mut self, row: u16, letter: u8) -> Result<bool, NoMemory>
+        requires row { row < length self.old.letters.items }
+        requires small { row < 1024 }
+        ensures { IfOk result (λ again. IsEntered self.old.set self.old.rows.items self.old.letters.items row letter again self.new.set self.new.rows.items self.new.letters.items) }
     {
-        let first = self.goal_from(goals, self.start)?;
-        let second = self.goal_from(goals, first + 1)?;
-        Some((first, second))
-    }
-
-    // The word of an entry of the last layer.
-    fn word(&self, alloc: Global, place: usize) -> Result<Vec<u8>, NoMemory>
-        requires place { place < length self.now.entries.items }
-        requires rooted { AreRooted self.now.entries.items }
-        ensures { IfOk result (λ w. w.items ≡ trail self.now.entries.items self.now.long place) }
-    {
-        let mut word = vec![in alloc; 0u8; self.long as usize]?;
-        let mut at = place;
-        let mut left = self.long as usize;
-        while left > 0 {
-            left -= 1;
-            word[left] = self.entries[at].letter;
-            at = self.entries[at].before as usize;
+        if has(&self.set, row) {
+            return Ok(self.letters[row as usize] != letter);
         }
-        Ok(word)
+        put(&mut self.set, row);
+        self.rows.push(row)?;
+        self.letters[row as usize] = letter;
+        Ok(false)
     }
+}
+
+/// For each length from 0 on the rows from which a word of this length leads to a goal, as far as words from a row of
+/// `distances` pass there with at most `most` letters in all. The last length is `most`, or less, where two words of a
+/// less length lead from that row to a goal: the least such length. The only error is want of memory.
+pub fn find_layers(
+    alloc: Global,
+    m: &Minimal,
+    from: u16,
+    goals: &[bool],
+    distances: &Distances,
+    edges: &Edges,
+    most: u16,
+) -> Result<Vec<BitRow>, NoMemory>
+    requires from { from < length m.now.rows }
+    requires goals { length goals.now ≡ length m.now.rows }
+    requires distances { AreDistances m.now.alphabet m.now.rows from distances.now.rows.items distances.now.values.items }
+    requires edges { AreEdges m.now.alphabet m.now.rows distances.now.rows.items distances.now.values.items edges.now.list.items edges.now.latest.items }
+    requires most { most ≤ 4096 }
+    ensures { IfOk result (λ sets. AreFound m.now.alphabet m.now.rows goals.now from most sets.items) }
+{
+    let _known = m.machine();
+    let mut layer = Layer::of_goals(alloc, goals)?;
+    let mut sets = Vec::new(alloc);
+    sets.push(layer.set)?;
+    let mut bound = most;
+    let mut long = 0u16;
+    while long < bound {
+        long += 1;
+        layer = layer_before(
+            alloc,
+            m,
+            from,
+            goals,
+            distances,
+            edges,
+            &layer.rows,
+            long,
+            &mut bound,
+        )?;
+        sets.push(layer.set)?;
+    }
+    Ok(sets)
+}
+
+// The layer of the words with one letter more than those of these rows. The bound comes down to the least length in which
+// a row of the layer makes two words.
+fn layer_before(
+    alloc: Global,
+    m: &Minimal,
+    from: u16,
+    goals: &[bool],
+    distances: &Distances,
+    edges: &Edges,
+    rows: &[u16],
+    long: u16,
+    bound: &mut u16,
+) -> Result<Layer, NoMemory>
+    requires distances { AreDistances m.now.alphabet m.now.rows from distances.now.rows.items distances.now.values.items }
+    requires edges { AreEdges m.now.alphabet m.now.rows distances.now.rows.items distances.now.values.items edges.now.list.items edges.now.latest.items }
+    requires long { 1 ≤ long }
+    requires rows { AreWithWords m.now.alphabet m.now.rows goals.now rows.now (long - 1) }
+    requires bound { long ≤ bound.old }
+    requires most { bound.old ≤ 4096 }
+    ensures lowered { IfOk result (λ l. IsLowered m.now.alphabet m.now.rows goals.now from long bound.old bound.new) }
+    ensures layer { IfOk result (λ l. IsPart m.now.alphabet m.now.rows goals.now distances.now.values.items edges.now.list.items long (λ e. IsToFirst m.now.rows edges.now.list.items rows.now (length rows.now) e) l.set l.rows.items l.letters.items bound.new) }
+{
+    let _known = m.machine();
+    let mut layer = Layer::new(alloc, m.size() as usize)?;
+    for place in 0..rows.len() {
+        enter_before(
+            m, from, goals, distances, edges, rows, place, long, &mut layer, bound,
+        )?;
+    }
+    Ok(layer)
+}
+
+// Enters the rows from which an edge leads to the row at a place.
+fn enter_before(
+    m: &Minimal,
+    from: u16,
+    goals: &[bool],
+    distances: &Distances,
+    edges: &Edges,
+    rows: &[u16],
+    place: usize,
+    long: u16,
+    layer: &mut Layer,
+    bound: &mut u16,
+) -> Result<(), NoMemory>
+    requires distances { AreDistances m.now.alphabet m.now.rows from distances.now.rows.items distances.now.values.items }
+    requires edges { AreEdges m.now.alphabet m.now.rows distances.now.rows.items distances.now.values.items edges.now.list.items edges.now.latest.items }
+    requires long { 1 ≤ long }
+    requires rows { AreWithWords m.now.alphabet m.now.rows goals.now rows.now (long - 1) }
+    requires place { place < length rows.now }
+    requires bound { long ≤ bound.old }
+    requires most { bound.old ≤ 4096 }
+    requires layer { IsPart m.now.alphabet m.now.rows goals.now distances.now.values.items edges.now.list.items long (λ e. IsToFirst m.now.rows edges.now.list.items rows.now place e) layer.old.set layer.old.rows.items layer.old.letters.items bound.old }
+    ensures lowered { OnOk result (IsLowered m.now.alphabet m.now.rows goals.now from long bound.old bound.new) }
+    ensures layer { OnOk result (IsPart m.now.alphabet m.now.rows goals.now distances.now.values.items edges.now.list.items long (λ e. IsToFirst m.now.rows edges.now.list.items rows.now (place + 1) e) layer.new.set layer.new.rows.items layer.new.letters.items bound.new) }
+{
+    let _known = m.machine();
+    let _from = from;
+    let _goals = goals;
+    let mut number = edges.latest(rows[place]);
+    while number > 0 {
+        let edge = edges.edge(number);
+        let total = distances.values[edge.row as usize] as u32 + long as u32;
+        if total > *bound as u32 {
+            return Ok(());
+        }
+        if layer.enter(edge.row, edge.letter)? {
+            *bound = total as u16;
+        }
+        number = edge.earlier;
+    }
+    Ok(())
 }

@@ -41,16 +41,18 @@ impl Levels {
         requires heads { number < length self.old.heads.items }
         ensures { IsRaised self.old.values.items self.old.heads.items number level row self.new.values.items self.new.heads.items }
     {
-        if level > self.values[number as usize] {
-            self.values[number as usize] = level;
-            self.heads[number as usize] = row;
+        let place = number as usize;
+        if level > self.values[place] {
+            self.values[place] = level;
+            self.heads[place] = row;
         }
     }
 }
 
-/// The least levels at which each row of a component has its gain above each component below it. Where the gains are the
-/// returns, and these are at most 1, they count how many cycles a way can meet; where each row that moves has gain 1, and
-/// there is no cycle, the longest ways. The only error is want of memory.
+/// Levels of the components: that of each row is at least its gain, added to the level of each component to which it
+/// leads by a letter out of its own. Where the gains are the returns, and these are at most 1, the levels count how many
+/// cycles a way can meet. Where the rows that move have gain 1, and there is no cycle, they are the lengths of the longest
+/// ways. The time is linear in the size of the machine. The only error is want of memory.
 pub fn find_levels(
     alloc: Global,
     m: &Minimal,

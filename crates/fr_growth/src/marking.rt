@@ -1,7 +1,7 @@
 //! Marks on rows.
 
 ghost use Rattle.std.specs.Prelude.{◌≡◌, ℕ, ◌<◌, IfOk, length, slice_index};
-ghost use Rattle.fr_growth.specs.Doubling.{AreDoubling, AreDoublingNumbers, AreInside, IsOnly, AreAll};
+ghost use Rattle.fr_growth.specs.Doubling.{AreDoubling, AreDoublingNumbers, IsOnly};
 
 use fr_alphabet::NoMemory;
 use std::alloc::Global;
@@ -36,17 +36,6 @@ fn doubling_numbers(alloc: Global, numbers: &[u16], returns: &[u8]) -> Result<Ve
     Ok(marks)
 }
 
-/// Marks the rows of a component. The only error is want of memory.
-pub fn component_rows(alloc: Global, numbers: &[u16], number: u16) -> Result<Vec<bool>, NoMemory>
-    ensures { IfOk result (λ marks. AreInside (length numbers.now) numbers.now number marks.items) }
-{
-    let mut marks = Vec::with_capacity(alloc, numbers.len())?;
-    for other in numbers {
-        marks.push(*other == number)?;
-    }
-    Ok(marks)
-}
-
 /// Marks one of `count` rows. The only error is want of memory.
 pub fn one_row(alloc: Global, count: u16, row: u16) -> Result<Vec<bool>, NoMemory>
     requires { row < count }
@@ -55,11 +44,4 @@ pub fn one_row(alloc: Global, count: u16, row: u16) -> Result<Vec<bool>, NoMemor
     let mut marks = vec![in alloc; false; count as usize]?;
     marks[row as usize] = true;
     Ok(marks)
-}
-
-/// Marks each of `count` rows. The only error is want of memory.
-pub fn every_row(alloc: Global, count: u16) -> Result<Vec<bool>, NoMemory>
-    ensures { IfOk result (λ marks. AreAll count marks.items) }
-{
-    Ok(vec![in alloc; true; count as usize]?)
 }

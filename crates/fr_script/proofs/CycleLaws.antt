@@ -11,7 +11,7 @@ use Rattle.fr_model.specs.Permutations.{IsPermutation, numbers_from}
 use Rattle.fr_script.specs.Cycles.{letter_after, next_in_cycle, disjoint_cycles_image, cycles_permutation, cycles_letters, has_repeat}
 
 -- whether x stands in a list
-abbrev has : ℕ → List ℕ → Bool
+abbrev pub has : ℕ → List ℕ → Bool
 has x xs = list_any (λ y. y == x) xs
 
 has-cases : (x y : ℕ) (ys : List ℕ) → has x (y ∷ ys) ≡ true → (y ≡ x) ⊎ (has x ys ≡ true)
@@ -34,7 +34,7 @@ has-there x y ys h = or-right (y == x) (has x ys) h
 has-not : (x y : ℕ) (ys : List ℕ) → has x (y ∷ ys) ≡ false → (y ≢ x) × (has x ys ≡ false)
 has-not x y ys h = let both = or-none (y == x) (has x ys) h in (eqb-false y x both.0, both.1)
 
-clash : {b : Bool} → b ≡ true → b ≡ false → ⊥
+pub clash : {b : Bool} → b ≡ true → b ≡ false → ⊥
 clash h k = cc
 
 has-front : (x : ℕ) (xs ys : List ℕ) → has x xs ≡ true → has x (xs ++ ys) ≡ true
@@ -46,7 +46,7 @@ has-back x [] ys h = h
 has-back x (y ∷ xs) ys h = has-there x y (xs ++ ys) (has-back x xs ys h)
 
 -- no letter twice in a list: in neither part, and in no two
-repeat-parts : (xs ys : List ℕ) → has_repeat (xs ++ ys) ≡ false →
+pub repeat-parts : (xs ys : List ℕ) → has_repeat (xs ++ ys) ≡ false →
     (has_repeat xs ≡ false) × (has_repeat ys ≡ false) × ((x : ℕ) → has x xs ≡ true → has x ys ≡ true → ⊥)
 repeat-parts [] ys h = (refl, h, λ x k. cc)
 repeat-parts (y ∷ xs) ys h =
@@ -66,7 +66,7 @@ after-past first x y [] ne = rw (ne_eqb y x ne) refl
 after-past first x y (z ∷ more) ne = rw (ne_eqb y x ne) refl
 
 -- what has a next letter stands there
-after-has : (first x z : ℕ) (ys : List ℕ) → letter_after first ys x ≡ Some z → has x ys ≡ true
+pub after-has : (first x z : ℕ) (ys : List ℕ) → letter_after first ys x ≡ Some z → has x ys ≡ true
 after-has first x z [] h = cc
 after-has first x z (y ∷ ys) h =
     elim (cases_eq y x) [ inl e ↦ has-here x y ys e | inr ne ↦ has-there x y ys (after-has first x z ys (sym (after-past first x y ys ne) ∙ h)) ]
@@ -126,18 +126,18 @@ next-injective a b z [] r h k = cc
 next-injective a b z (y ∷ ys) r h k =
     after-injective y a b z (y ∷ ys) r (λ w more e. let tail : ys ≡ more = cc in rw (← tail) ((or-none (has y ys) (has_repeat ys) r).0)) h k
 
-next-target : (x z : ℕ) (cycle : List ℕ) → next_in_cycle cycle x ≡ Some z → has z cycle ≡ true
+pub next-target : (x z : ℕ) (cycle : List ℕ) → next_in_cycle cycle x ≡ Some z → has z cycle ≡ true
 next-target x z [] h = cc
 next-target x z (y ∷ ys) h = elim (after-target y x y z ys h) [ inl k ↦ has-there z y ys k | inr e ↦ has-here z y ys (sym e) ]
 
-image-some : (cycle : List ℕ) (cycles : List (List ℕ)) (x z : ℕ) → next_in_cycle cycle x ≡ Some z → disjoint_cycles_image (cycle ∷ cycles) x ≡ z
+pub image-some : (cycle : List ℕ) (cycles : List (List ℕ)) (x z : ℕ) → next_in_cycle cycle x ≡ Some z → disjoint_cycles_image (cycle ∷ cycles) x ≡ z
 image-some cycle cycles x z h = rw h refl
 
-image-none : (cycle : List ℕ) (cycles : List (List ℕ)) (x : ℕ) → next_in_cycle cycle x ≡ None → disjoint_cycles_image (cycle ∷ cycles) x ≡ disjoint_cycles_image cycles x
+pub image-none : (cycle : List ℕ) (cycles : List (List ℕ)) (x : ℕ) → next_in_cycle cycle x ≡ None → disjoint_cycles_image (cycle ∷ cycles) x ≡ disjoint_cycles_image cycles x
 image-none cycle cycles x h = rw h refl
 
 -- a letter has a next one in a cycle, or does not stand there
-next-cases : (cycle : List ℕ) (x : ℕ) → ((z : ℕ) × (next_in_cycle cycle x ≡ Some z)) ⊎ (next_in_cycle cycle x ≡ None)
+pub next-cases : (cycle : List ℕ) (x : ℕ) → ((z : ℕ) × (next_in_cycle cycle x ≡ Some z)) ⊎ (next_in_cycle cycle x ≡ None)
 next-cases cycle x = by (next_in_cycle cycle x) refl
   where
     by : (o : Option ℕ) → next_in_cycle cycle x ≡ o → ((z : ℕ) × (next_in_cycle cycle x ≡ Some z)) ⊎ (next_in_cycle cycle x ≡ None)

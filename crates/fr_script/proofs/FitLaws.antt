@@ -122,12 +122,17 @@ unless-refused d true second a b outcome x y h = x
 unless-refused d false true a b outcome x y h = y
 unless-refused d false false a b outcome x y h = h
 
-line-parses : (d : ℕ) (is_first : Bool) (tokens : List Located) (outcome : LineOutcome) → length (lexemes tokens) ≤ 4096 → r.Parses d is_first tokens outcome → OutcomeFits d outcome
-line-parses d is_first tokens _ few (r.derived line h) =
+line-parses : (d : ℕ) (is_first : Bool) (text : List ℕ) (outcome : LineOutcome) → length (lexemes (tokens_of text)) ≤ 4096 → length text ≤ 4096 →
+    r.Parses d is_first (tokens_of text) outcome → OutcomeFits d outcome
+line-parses d is_first text _ few short (r.derived line h) =
     let small : line_size (line_value d line) ≤ 4096 = omega (arith, line-size d line, ap length h, few) in
-    unless-refused d (line_notes d line).not_a_letter (line_notes d line).power_passed f.NotALetter f.PowerPassed (r.said is_first (line_value d line)) tt tt
-    (said-fits d is_first (line_value d line) (line-fits d line) small)
-line-parses d is_first tokens _ few (r.syntax k h) = tt
+    by (line_notes d line).not_a_letter refl (λ e. said-fits d is_first (line_value d line) (line-fits d text line h short e) small)
+  where
+    by : (refused : Bool) → (line_notes d line).not_a_letter ≡ refused → ((line_notes d line).not_a_letter ≡ false → OutcomeFits d (r.said is_first (line_value d line))) →
+        OutcomeFits d (if refused then r.faulty f.NotALetter else (if (line_notes d line).power_passed then r.faulty f.PowerPassed else r.said is_first (line_value d line)))
+    by true e fits = tt
+    by false e fits = unless-refused d false (line_notes d line).power_passed f.NotALetter f.PowerPassed (r.said is_first (line_value d line)) tt tt (fits e)
+line-parses d is_first text _ few short (r.syntax k h) = tt
 
 pub outcome-fits : (d : ℕ) (is_first : Bool) (line : List ℕ) (outcome : LineOutcome) → r.ReadsLine d is_first line outcome → OutcomeFits d outcome
 outcome-fits d is_first line outcome =
@@ -139,7 +144,8 @@ outcome-fits d is_first line outcome =
     let short : nat_lt 4096 (length line) ≡ false → text → OutcomeFits d outcome = λ h.
     any_bool (r.begins_statement (lexemes tokens)) nests (outcome ≡ r.faulty f.UnknownStatement)
     (any_bool (passes_nesting 0 0 (lexemes tokens)) (outcome ≡ r.faulty f.NestingPassed) parses (fault f.NestingPassed tt)
-    (line-parses d is_first tokens outcome (omega (arith, ltb-false 4096 (length line) h, line-tokens-few line))))
+    (line-parses d is_first (code_of line) outcome (omega (arith, ltb-false 4096 (length line) h, line-tokens-few line))
+    (omega (arith, ltb-false 4096 (length line) h, code-few line))))
     (fault f.UnknownStatement tt) in
     any_option (bad_place (code_of line)) (MatchBool (nat_lt 4096 (length line)) (outcome ≡ r.faulty f.LineTooLong) text) (λ place. outcome ≡ r.faulty (f.BadByte place))
     (by (nat_lt 4096 (length line)) refl (outcome ≡ r.faulty f.LineTooLong) text (fault f.LineTooLong tt) short)

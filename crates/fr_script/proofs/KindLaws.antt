@@ -1,22 +1,29 @@
 -- What a line does, by its tokens.
-use Rattle.std.proofs.Common.{◌≡◌, ℕ, Bool, true, false, List, refl, ap, sym, ◌∙◌, length, map}
+use Rattle.std.proofs.Common.{◌≡◌, ℕ, Bool, true, false, List, [], ◌∷◌, refl, ap, sym, ◌∙◌, length}
 use Rattle.std.specs.Prelude.{nat_lt}
-use Rattle.fr_syntax.specs.declared.token.Placed.{Placed}
-use Rattle.fr_syntax.specs.Lines.{lexeme, located, code_of, tokens_of}
+use Rattle.fr_syntax.specs.Tokens.{Lexeme}
+use Rattle.fr_syntax.specs.Lines.{lexemes, code_of, tokens_of}
 use Rattle.fr_script.specs.declared.outcome.LineOutcome.{LineOutcome}
 use Rattle.fr_script.specs.declared.inner.InnerOutcome.{InnerOutcome}
 use Rattle.fr_script.specs.declared.item.Block.{Block}
 use Rattle.fr_script.specs.declared.item.LineKind.{LineKind}
+use Rattle.fr_script.specs.declared.item.LineKind.TheVariants as k
 use Rattle.fr_script.specs.declared.item.Outside.TheVariants as out
 use Rattle.fr_script.specs.declared.item.Inside.TheVariants as ins
 use Rattle.fr_script.specs.Reading.{ReadsLine}
 use Rattle.fr_script.specs.Inner.{ReadsInner}
 use Rattle.fr_script.specs.Items.{kind_of, line_kind, is_blank, is_group, is_end, outside_of, ReadsOutside, grown, ended, ReadsInside}
-use Rattle.fr_script.proofs.ReadingLaws.{lexemes-same}
 
-pub kind_of-tokens : (line : List ℕ) (tokens : List Placed) (kind : LineKind) → map located tokens ≡ tokens_of (code_of line) → kind ≡ kind_of (map lexeme tokens) → kind ≡ line_kind line
+-- a line without a first token has none
+pub kind_of-none : (line : List ℕ) → lexemes (tokens_of (code_of line)) ≡ [] → k.Empty ≡ line_kind line
 unfolding line_kind
-kind_of-tokens line tokens kind h k = k ∙ ap kind_of (lexemes-same tokens (tokens_of (code_of line)) h)
+kind_of-none line h = sym (ap kind_of h)
+
+-- the kind by the first token, and by whether it is the only one
+pub kind_of-front : (line : List ℕ) (kind : LineKind) (token : Lexeme) (rest : List Lexeme) → lexemes (tokens_of (code_of line)) ≡ token ∷ rest →
+    kind ≡ kind_of (token ∷ rest) → kind ≡ line_kind line
+unfolding line_kind
+kind_of-front line kind token rest h k = k ∙ sym (ap kind_of h)
 
 pub blank_outside : (d : ℕ) (is_first : Bool) (n : ℕ) (line : List ℕ) (kind : LineKind) → kind ≡ line_kind line → is_blank kind line ≡ true →
     ReadsOutside d is_first n line out.Blank

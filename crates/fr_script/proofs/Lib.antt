@@ -4,6 +4,7 @@ pub mod InnerLaws
 pub mod KindLaws
 pub mod OutcomeLaws
 pub mod CycleLaws
+pub mod CycleImages
 pub mod LetterLaws
 pub mod BlockLaws
 pub mod KeywordLaws

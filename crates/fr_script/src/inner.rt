@@ -7,12 +7,12 @@ ghost use Rattle.fr_script.specs.Cycles as cycles;
 ghost use Rattle.fr_script.specs.Inner as spec;
 
 use crate::fault::LineFault;
-use crate::outcome::LINE_LIMIT;
+use crate::outcome::{LINE_LIMIT, syntax_fault};
 use crate::permutation::{cycles_letters, cycles_permutation, has_repeat};
 use fr_alphabet::{Alphabet, NoMemory};
 use fr_syntax::{
     Placed, Recursion, RecursionLine, RecursionReading, SecWord, bad_place, code, passes_nesting,
-    place_of, read_recursion,
+    read_recursion, tokens,
 };
 use sqlite_items::Items;
 use std::alloc::Global;
@@ -112,26 +112,24 @@ fn read_located(
     }
     match read_recursion(alloc, a, tokens)? {
         RecursionReading::Whole(line) => Ok(checked(alloc, a, n, line)?),
-        RecursionReading::Syntax(k) => {
-            Ok(InnerOutcome::Faulty(LineFault::Syntax(place_of(tokens, k))))
-        }
+        RecursionReading::Syntax(k) => Ok(InnerOutcome::Faulty(syntax_fault(tokens, k))),
     }
 }
 
-/// Reads the line n, which stands inside a block and is neither blank nor its end, from its tokens.
-pub fn read_inner(
-    alloc: Global,
-    a: Alphabet,
-    n: u32,
-    line: &[u8],
-    tokens: &[Placed<'_>],
-) -> Result<InnerOutcome, NoMemory>
-    requires { map lines.located tokens.now ≡ lines.tokens_of (lines.code_of line.now) }
+fn read_text(alloc: Global, a: Alphabet, n: u32, text: &[u8]) -> Result<InnerOutcome, NoMemory>
+    ensures { IfOk result (λ r. spec.ReadsText a n (lines.tokens_of text.now) r) }
+{
+    let tokens = tokens(alloc, text)?;
+    Ok(read_located(alloc, a, n, &tokens)?)
+}
+
+/// Reads the line n, which stands inside a block and is neither blank nor its end.
+pub fn read_inner(alloc: Global, a: Alphabet, n: u32, line: &[u8]) -> Result<InnerOutcome, NoMemory>
     ensures { IfOk result (λ r. spec.ReadsInner a n line.now r) }
 {
     match bad_place(code(line)) {
         Some(place) => Ok(InnerOutcome::Faulty(LineFault::BadByte(place))),
         None if line.len() > LINE_LIMIT => Ok(InnerOutcome::Faulty(LineFault::LineTooLong)),
-        None => read_located(alloc, a, n, tokens),
+        None => Ok(read_text(alloc, a, n, code(line))?),
     }
 }

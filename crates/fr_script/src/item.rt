@@ -1,16 +1,15 @@
 //! What a line does: it is blank, it is an item, or it begins a block, goes on in one or ends one.
 
-ghost use Rattle.std.specs.Prelude.{◌≡◌, IfOk, map, []};
+ghost use Rattle.std.specs.Prelude.{◌≡◌, ◌==◌, ◌∷◌, List, length, IfOk};
 ghost use Rattle.std.specs.Str.{bytes_eq};
-ghost use Rattle.fr_syntax.specs.Lines as lines;
-ghost use Rattle.fr_syntax.specs.Tokens.{seen};
+ghost use Rattle.fr_syntax.specs.Tokens.{Lexeme, seen};
 ghost use Rattle.fr_script.specs.Items as spec;
 
 use crate::fault::{Fault, LineFault};
 use crate::inner::{InnerOutcome, read_inner};
 use crate::outcome::{LINE_LIMIT, LineOutcome, read_line};
 use fr_alphabet::{Alphabet, NoMemory};
-use fr_syntax::{Placed, Recursion, Statement, Token, code, tokens};
+use fr_syntax::{LineFront, Recursion, Statement, Token, code, line_front};
 use sqlite_items::Items;
 use std::alloc::Global;
 
@@ -83,17 +82,25 @@ fn is_word(token: Token<'_>, word: &[u8]) -> bool
     }
 }
 
-fn kind_of(tokens: &[Placed<'_>]) -> LineKind
-    ensures { result ≡ spec.kind_of (map lines.lexeme tokens.entry.now) }
+fn kind_of(front: LineFront<'_>) -> LineKind
+    ensures { (rest : List Lexeme) → front.entry.is_only ≡ (length rest == 0) → result ≡ spec.kind_of (seen front.entry.token ∷ rest) }
 {
-    if tokens.is_empty() {
-        LineKind::Empty
-    } else if is_word(tokens[0].token, b"group") {
+    if is_word(front.token, b"group") {
         LineKind::Group
-    } else if tokens.len() == 1 && is_word(tokens[0].token, b"end") {
+    } else if front.is_only && is_word(front.token, b"end") {
         LineKind::End
     } else {
         LineKind::Other
+    }
+}
+
+// A line may be too long to list its tokens, so only the first is looked at.
+fn line_kind(line: &[u8]) -> LineKind
+    ensures { result ≡ spec.line_kind line.now }
+{
+    match line_front(code(line)) {
+        Some(front) => kind_of(front),
+        None => LineKind::Empty,
     }
 }
 
@@ -130,25 +137,6 @@ fn outside_of(alloc: Global, n: u32, is_group: bool, outcome: LineOutcome) -> Ou
     }
 }
 
-fn outside_by_tokens(
-    alloc: Global,
-    a: Alphabet,
-    is_first: bool,
-    n: u32,
-    line: &[u8],
-    tokens: &[Placed<'_>],
-) -> Result<Outside, NoMemory>
-    requires { map lines.located tokens.now ≡ lines.tokens_of (lines.code_of line.now) }
-    ensures { IfOk result (λ r. spec.ReadsOutside a is_first n line.now r) }
-{
-    let kind = kind_of(tokens);
-    if is_blank(kind, line) {
-        return Ok(Outside::Blank);
-    }
-    let outcome = read_line(alloc, a, is_first, line, tokens)?;
-    Ok(outside_of(alloc, n, is_group(kind), outcome))
-}
-
 /// Reads the line n, which stands outside a block.
 pub fn read_outside(
     alloc: Global,
@@ -159,8 +147,12 @@ pub fn read_outside(
 ) -> Result<Outside, NoMemory>
     ensures { IfOk result (λ r. spec.ReadsOutside a is_first n line.now r) }
 {
-    let tokens = tokens(alloc, code(line))?;
-    Ok(outside_by_tokens(alloc, a, is_first, n, line, &tokens)?)
+    let kind = line_kind(line);
+    if is_blank(kind, line) {
+        return Ok(Outside::Blank);
+    }
+    let outcome = read_line(alloc, a, is_first, line)?;
+    Ok(outside_of(alloc, n, is_group(kind), outcome))
 }
 
 fn is_blank(kind: LineKind, line: &[u8]) -> bool
@@ -235,28 +227,6 @@ fn ended(block: Block, n: u32, is_long: bool) -> Item
     Item { line, body }
 }
 
-fn inside_by_tokens(
-    alloc: Global,
-    a: Alphabet,
-    block: Block,
-    n: u32,
-    line: &[u8],
-    tokens: &[Placed<'_>],
-) -> Result<Inside, NoMemory>
-    requires { map lines.located tokens.now ≡ lines.tokens_of (lines.code_of line.now) }
-    ensures { IfOk result (λ r. spec.ReadsInside a block n line.now r) }
-{
-    let kind = kind_of(tokens);
-    if is_end(kind) {
-        return Ok(Inside::Ends(ended(block, n, line.len() > LINE_LIMIT)));
-    }
-    if is_blank(kind, line) {
-        return Ok(Inside::Goes(block));
-    }
-    let outcome = read_inner(alloc, a, n, line, tokens)?;
-    Ok(Inside::Goes(grown(block, n, outcome)?))
-}
-
 /// Reads the line n, which stands inside a block.
 pub fn read_inside(
     alloc: Global,
@@ -267,6 +237,13 @@ pub fn read_inside(
 ) -> Result<Inside, NoMemory>
     ensures { IfOk result (λ r. spec.ReadsInside a block n line.now r) }
 {
-    let tokens = tokens(alloc, code(line))?;
-    Ok(inside_by_tokens(alloc, a, block, n, line, &tokens)?)
+    let kind = line_kind(line);
+    if is_end(kind) {
+        return Ok(Inside::Ends(ended(block, n, line.len() > LINE_LIMIT)));
+    }
+    if is_blank(kind, line) {
+        return Ok(Inside::Goes(block));
+    }
+    let outcome = read_inner(alloc, a, n, line)?;
+    Ok(Inside::Goes(grown(block, n, outcome)?))
 }

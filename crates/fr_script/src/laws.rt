@@ -1,6 +1,8 @@
 //! Laws of scripts, which no call needs.
 
-ghost use Rattle.std.specs.Prelude.{◌≡◌, ◌≤◌, ℕ, List, length};
+ghost use Rattle.std.specs.Prelude.{◌≡◌, ◌≤◌, ℕ, List, false, length};
+ghost use Rattle.fr_alphabet.specs.Cycles.{cycles_image};
+ghost use Rattle.fr_script.specs.Cycles.{cycles_letters, disjoint_cycles_image, has_repeat};
 ghost use Rattle.fr_script.specs.declared.script.Script.{Script};
 ghost use Rattle.fr_script.specs.declared.line_reader.Advance.{Advance};
 ghost use Rattle.fr_script.specs.declared.line_reader.State.{State};
@@ -32,4 +34,9 @@ pub fn scripts_fit()
 /// A line does one thing to a reader, and ends one item or none.
 pub fn pushes_are_unique()
     ensures { (state : State) (line : List ℕ) (a b : Advance) → Advances state line a → Advances state line b → a ≡ b }
+{}
+
+/// Cycles no two of which have a letter in common send each letter to where their product sends it.
+pub fn disjoint_cycles_are_their_product()
+    ensures { (cycles : List (List ℕ)) (x : ℕ) → has_repeat (cycles_letters cycles) ≡ false → disjoint_cycles_image cycles x ≡ cycles_image cycles x }
 {}

@@ -20,7 +20,8 @@ pub use fault::{Fault, LineFault};
 pub use fr_syntax::{Atom, Expr, Factor, Name, Op, Ray, Recursion, SecName, SecWord, Statement};
 pub use item::{Body, Item};
 pub use laws::{
-    pushes_are_unique, scripts_are_read_by_lines, scripts_are_unique, scripts_exist, scripts_fit,
+    disjoint_cycles_are_their_product, pushes_are_unique, scripts_are_read_by_lines,
+    scripts_are_unique, scripts_exist, scripts_fit,
 };
 pub use line_reader::{LineReader, ScriptFault};
 pub use print::print_fault;

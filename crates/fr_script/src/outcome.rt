@@ -9,7 +9,7 @@ use crate::fault::LineFault;
 use fr_alphabet::{Alphabet, NoMemory};
 use fr_syntax::{
     Keyword, Line, LineReading, Notes, Placed, ReadLine, Statement, Token, bad_place, code,
-    passes_nesting, place_of, read_tokens,
+    passes_nesting, place_of, read_tokens, tokens,
 };
 use std::alloc::Global;
 
@@ -80,6 +80,13 @@ fn alphabet(is_first: bool, letters: u32) -> LineOutcome
     }
 }
 
+/// The fault of tokens that begin no line from the one with the index k on, whatever else is wrong with them.
+pub fn syntax_fault(tokens: &[Placed<'_>], k: usize) -> LineFault
+    ensures { result ≡ LineFault.Syntax (lines.place_of (map lines.located tokens.entry.now) k) }
+{
+    LineFault::Syntax(place_of(tokens, k))
+}
+
 fn read_located(
     alloc: Global,
     a: Alphabet,
@@ -96,24 +103,34 @@ fn read_located(
     }
     match read_tokens(alloc, a, tokens)? {
         LineReading::Whole(read) => Ok(checked(is_first, read)),
-        LineReading::Syntax(k) => Ok(LineOutcome::Faulty(LineFault::Syntax(place_of(tokens, k)))),
+        LineReading::Syntax(k) => Ok(LineOutcome::Faulty(syntax_fault(tokens, k))),
     }
 }
 
-/// Reads a line outside a block that is not blank, from its tokens.
+fn read_text(
+    alloc: Global,
+    a: Alphabet,
+    is_first: bool,
+    text: &[u8],
+) -> Result<LineOutcome, NoMemory>
+    ensures { IfOk result (λ r. reading.ReadsText a is_first (lines.tokens_of text.now) r) }
+{
+    let tokens = tokens(alloc, text)?;
+    Ok(read_located(alloc, a, is_first, &tokens)?)
+}
+
+/// Reads a line outside a block that is not blank.
 pub fn read_line(
     alloc: Global,
     a: Alphabet,
     is_first: bool,
     line: &[u8],
-    tokens: &[Placed<'_>],
 ) -> Result<LineOutcome, NoMemory>
-    requires { map lines.located tokens.now ≡ lines.tokens_of (lines.code_of line.now) }
     ensures { IfOk result (λ r. reading.ReadsLine a is_first line.now r) }
 {
     match bad_place(code(line)) {
         Some(place) => Ok(LineOutcome::Faulty(LineFault::BadByte(place))),
         None if line.len() > LINE_LIMIT => Ok(LineOutcome::Faulty(LineFault::LineTooLong)),
-        None => read_located(alloc, a, is_first, tokens),
+        None => Ok(read_text(alloc, a, is_first, code(line))?),
     }
 }

@@ -58,13 +58,15 @@ fn a_block_wants_an_end(rt: HostRuntime) -> Result<(), Fail> {
 
 #[test]
 fn a_script_has_at_most_4096_lines(rt: HostRuntime) -> Result<(), Fail> {
-    let mut lines = between(rt.alloc(), b"", 4096, b'\n')?;
-    assert!(rt; read_script(rt.alloc(), &lines)?.items.is_empty());
-    lines.push(b'\r')?;
-    assert_eq!(rt;
-        read_script(rt.alloc(), &lines).err(),
-        Some(ScriptFault::LinesPassed)
-    );
+    for last in [b'\n', b'\r'] {
+        let mut lines = between(rt.alloc(), b"", 4096, b'\n')?;
+        assert!(rt; read_script(rt.alloc(), &lines)?.items.is_empty());
+        lines.push(last)?;
+        assert_eq!(rt;
+            read_script(rt.alloc(), &lines).err(),
+            Some(ScriptFault::LinesPassed)
+        );
+    }
     Ok(())
 }
 
@@ -110,7 +112,9 @@ fn a_line_has_its_first_fault(rt: HostRuntime) -> Result<(), Fail> {
         ("act t 12 12", "line 4: syntax at 10\n"),
         ("act t", "line 4: syntax at 6\n"),
         ("show t\x7f", "line 4: bad byte at 7\n"),
-        ("show t # \x7f", ""),
+        ("show t\u{e9}", "line 4: bad byte at 7\n"),
+        ("show t # \u{e9}", ""),
+        ("act t 13 12", "line 4: syntax at 10\n"),
         ("order t 1000001", "line 4: number passes 1000000\n"),
         ("order t 001000000", ""),
         (
@@ -121,6 +125,8 @@ fn a_line_has_its_first_fault(rt: HostRuntime) -> Result<(), Fail> {
         ("let show = 1\nshow show", ""),
         ("ray t 1(2)", ""),
         ("ray t (1", "line 4: syntax at 9\n"),
+        ("ray t 1()", "line 4: syntax at 9\n"),
+        ("ray t 1(3)", "line 4: letter out of range\n"),
         ("eq t@-1", ""),
         ("group\na = <1,1>(1,1)\nend", "line 5: not a permutation\n"),
         ("group\na = <1>\nend", "line 5: wrong number of sections\n"),
@@ -130,6 +136,7 @@ fn a_line_has_its_first_fault(rt: HostRuntime) -> Result<(), Fail> {
         ("group\nshow\nend", "line 5: syntax at 5\n"),
         ("group\nend = (1,2) # end\n\nend # here", ""),
         ("group\na = <a*a^-1,1>\nb = <1>\nc = <", "line 4: no end\n"),
+        ("group\na = <1,1>(1,2)", "line 4: no end\n"),
     ];
     for (lines, expected) in cases {
         let mut script = Vec::from_slice(rt.alloc(), ADDING_MACHINE)?;
@@ -172,6 +179,11 @@ fn lines_and_brackets_have_limits(rt: HostRuntime) -> Result<(), Fail> {
         let text = faults(rt.alloc(), &line)?;
         assert_eq!(rt; text.as_slice(), expected.as_bytes(), "at {count}");
     }
+    let line = between(rt.alloc(), b"group t", 4090, b'*')?;
+    assert_eq!(rt;
+        faults(rt.alloc(), &line)?.as_slice(),
+        b"line 1: no end\n".as_slice()
+    );
     for (count, expected) in [(64, ""), (65, "line 1: nesting passes 64\n")] {
         let mut line = between(rt.alloc(), b"show ", count, b'(')?;
         let back = between(rt.alloc(), b"t", count, b')')?;

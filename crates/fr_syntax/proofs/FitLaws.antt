@@ -1,7 +1,8 @@
 -- What a line of the grammar says fits its alphabet.
-use Rattle.std.proofs.Common.{◌≡◌, ℕ, suc, ◌+◌, ◌<◌, ◌≤◌, ◌==◌, Bool, true, false, ◌&&◌, cond, List, [], ◌∷◌, ◌++◌, Option, Some, None, Result, Ok, Err, map, length, refl, sym, subst, arith, length-append}
+use Rattle.std.proofs.Common.{◌≡◌, ℕ, suc, ◌+◌, ◌<◌, ◌≤◌, ◌==◌, Bool, true, false, ◌&&◌, ◌||◌, cond, List, [], ◌∷◌, ◌++◌, Option, Some, None, Result, Ok, Err, map, length, refl, ap, sym, ◌∙◌, subst, arith, length-append}
 use Rattle.std.specs.Prelude.{nat_le, nat_lt}
-use Rattle.std.proofs.lemmas.Bool.{leb-true}
+use Rattle.std.proofs.lemmas.Bool.{leb-true, ne_eqb}
+use Rattle.std.proofs.lemmas.List.{length-map}
 use Rattle.fr_model.specs.Words.{IsWord, IsLetter}
 use Rattle.fr_alphabet.specs.declared.word.WordFault.{WordFault}
 use Rattle.fr_alphabet.specs.declared.word.WordFault.TheVariants.{WordTooLong, NotALetter}
@@ -12,9 +13,13 @@ use Rattle.fr_syntax.specs.declared.tree.Atom.{Atom, out-Atom}
 use Rattle.fr_syntax.specs.declared.tree.Atom.TheVariants as a
 use Rattle.fr_syntax.specs.declared.tree.Atom.TheOpen as layer
 use Rattle.fr_syntax.specs.declared.tree.Op.{Op}
-use Rattle.fr_syntax.specs.Grammar.{WordTree, Empty, Digits, ExprTree, Only, Times, FactorTree, Plain, With, OpTree, Power, Negative, Conjugate, Section, AtomTree, One, Simple, Atom2Tree, Named, Paren, Comm, RayTree, Periodic, Eventually, ExprsTree, OneExpr, MoreExprs, LineTree, AlphabetLine, GroupLine, LetLine, ShowLine, StatesLine, WreathLine, ClassLine, EqLine, ActLine, RayLine, OrderLine, NucleusLine}
-use Rattle.fr_syntax.specs.Values.{read_letters, letters_of, word_value, factors_of, factor_value, op_value, atom_value, atom2_value, expr_value, product, plain, with_op, capped_value}
-use Rattle.fr_syntax.specs.LineValues.{ray_value, exprs_value, line_value}
+use Rattle.fr_syntax.specs.declared.notes.Notes.{Notes}
+use Rattle.fr_syntax.specs.Tokens.{Number}
+use Rattle.fr_syntax.specs.Lines.{lexemes, tokens_of}
+use Rattle.fr_syntax.specs.Grammar.{WordTree, Empty, Digits, ExprTree, Only, Times, FactorTree, Plain, With, OpTree, Power, Negative, Conjugate, Section, AtomTree, One, Simple, Atom2Tree, Named, Paren, Comm, RayTree, Periodic, Eventually, ExprsTree, OneExpr, MoreExprs, LineTree, AlphabetLine, GroupLine, LetLine, ShowLine, StatesLine, WreathLine, ClassLine, EqLine, ActLine, RayLine, OrderLine, NucleusLine, spell_ray, line_tokens}
+use Rattle.fr_syntax.specs.Values.{no_notes, note_expr, is_refused, has_bad_letter, read_letters, letters_of, word_value, factors_of, factor_value, op_value, atom_value, atom2_value, expr_value, product, plain, with_op, capped_value}
+use Rattle.fr_syntax.specs.LineValues.{ray_value, note_ray, exprs_value, line_value, line_notes}
+use Rattle.fr_syntax.proofs.TextLaws.{IsNumeral, AreNumerals, tokens_length, tokens_of-numerals, tokens_of-length, numerals-expr, length-expr}
 use Rattle.fr_syntax.specs.Fits.{AtomLayer, FitsExpr, expr_fits, FitsFactors, no_factors, more_factors, FitsAtom, atom_fits, FitsAtomLayer, one_fits, name_fits, paren_fits, comm_fits, FitsOps, no_ops, more_ops, FitsOp, power_fits, conj_fits, at_fits, FitsExprs, FitsRay, FitsLine}
 
 and-both : (b c : Bool) → (b && c) ≡ true → (b ≡ true) × (c ≡ true)
@@ -137,9 +142,60 @@ mutual
 pub expr-fits : (d : ℕ) (e : ExprTree) → FitsExpr d (expr_value d e)
 expr-fits d e = product-fits d (factors_of d e) (some-factors d e) (factors-fit d e)
 
-ray-fits : (d : ℕ) (ray : RayTree) → FitsRay d (ray_value d ray)
-ray-fits d (Periodic period) = record { before = tt; period = letters_of-word d period }
-ray-fits d (Eventually before period) = record { before = letters_of-word d before; period = letters_of-word d period }
+long-refused : (d : ℕ) (b : Bool) (reading : Result (List ℕ) WordFault) → is_refused (cond b (Err WordTooLong) reading) ≡ false →
+    (is_refused reading ≡ false) × (read_letters (cond b (Err WordTooLong) reading) ≡ read_letters reading)
+long-refused d true reading h = cc
+long-refused d false reading h = (h, refl)
+
+minus-refused : (b : Bool) (reading : Result (List ℕ) WordFault) → b ≡ false → is_refused (cond b (Ok []) reading) ≡ false →
+    (is_refused reading ≡ false) × (read_letters (cond b (Ok []) reading) ≡ read_letters reading)
+minus-refused true reading e h = cc
+minus-refused false reading e h = (h, refl)
+
+digits-length : (d : ℕ) (text : List ℕ) → is_refused (digits_reading d text) ≡ false → length (read_letters (digits_reading d text)) ≡ length text
+digits-length d text = by (bad_place d 1 text)
+  where
+    by : (o : Option ℕ) → is_refused (elim o as (λ x. Result (List ℕ) WordFault) [ Some k ↦ Err (NotALetter k) | None ↦ Ok (map letter_of_digit text) ]) ≡ false →
+        length (read_letters (elim o as (λ x. Result (List ℕ) WordFault) [ Some k ↦ Err (NotALetter k) | None ↦ Ok (map letter_of_digit text) ])) ≡ length text
+    by None h = length-map text letter_of_digit
+    by (Some k) h = cc
+
+short-length : (d : ℕ) (text : List ℕ) → IsNumeral (Number text) → is_refused (short_reading d text) ≡ false →
+    (0 < length text) × (length (read_letters (short_reading d text)) ≡ length text)
+short-length d [] n h = cc
+short-length d (c ∷ []) n h =
+    let no : (c == 45) ≡ false = ne_eqb c 45 n in
+    let told = minus-refused (c == 45) (digits_reading d (c ∷ [])) no h in
+    (omega arith, ap length told.1 ∙ digits-length d (c ∷ []) told.0)
+short-length d (c ∷ e ∷ cs) n h = (omega arith, digits-length d (c ∷ e ∷ cs) h)
+
+-- a numeral that is no refused word has a letter for each digit
+letters_of-length : (d : ℕ) (text : List ℕ) → IsNumeral (Number text) → has_bad_letter d text ≡ false → (0 < length text) × (length (letters_of d text) ≡ length text)
+unfolding letters_of has_bad_letter
+letters_of-length d text n h =
+    let told = long-refused d (nat_lt 4096 (length text)) (short_reading d text) h in
+    let short = short-length d text n told.0 in
+    (short.0, ap length told.1 ∙ short.1)
+
+or-neither : (a b : Bool) → (a || b) ≡ false → (a ≡ false) × (b ≡ false)
+or-neither true b h = cc
+or-neither false b h = (refl, h)
+
+ray-fits : (d : ℕ) (ray : RayTree) (notes : Notes) → AreNumerals (spell_ray ray []) → tokens_length (spell_ray ray []) ≤ 4096 →
+    (note_ray d ray notes).not_a_letter ≡ false → FitsRay d (ray_value d ray)
+ray-fits d (Periodic period) notes n few h =
+    let told = letters_of-length d period n.1.0 (or-neither notes.not_a_letter (has_bad_letter d period) h).1 in
+    record { before = tt; period = letters_of-word d period; some = omega (arith, told.0, told.1); most = omega (arith, told.1, few) }
+ray-fits d (Eventually before period) notes n few h =
+    let both = or-neither (notes.not_a_letter || has_bad_letter d before) (has_bad_letter d period) h in
+    let front = letters_of-length d before n.0 (or-neither notes.not_a_letter (has_bad_letter d before) both.0).1 in
+    let told = letters_of-length d period n.1.1.0 both.1 in
+    record {
+      before = letters_of-word d before;
+      period = letters_of-word d period;
+      some = omega (arith, told.0, told.1);
+      most = omega (arith, front.1, told.1, few);
+    }
 
 exprs-append : (d : ℕ) (es : List Expr) (e : Expr) → FitsExprs d es → FitsExpr d e → FitsExprs d (es ++ e ∷ [])
 exprs-append d [] e h g = (g, tt)
@@ -149,17 +205,27 @@ exprs-fit : (d : ℕ) (es : ExprsTree) → (0 < length (exprs_value d es)) × Fi
 exprs-fit d (OneExpr e) = (omega arith, (expr-fits d e, tt))
 exprs-fit d (MoreExprs es e) = (simp length-append (omega arith), exprs-append d (exprs_value d es) (expr_value d e) (exprs-fit d es).1 (expr-fits d e))
 
--- what a line of the grammar says fits the alphabet over which it is read
-pub line-fits : (d : ℕ) (line : LineTree) → FitsLine d (line_value d line)
-line-fits d (AlphabetLine text) = tt
-line-fits d GroupLine = tt
-line-fits d (LetLine name e) = λ low high. expr-fits d e
-line-fits d (ShowLine e) = λ low high. expr-fits d e
-line-fits d (StatesLine e) = λ low high. expr-fits d e
-line-fits d (WreathLine e) = λ low high. expr-fits d e
-line-fits d (ClassLine e) = λ low high. expr-fits d e
-line-fits d (EqLine left right) = λ low high. (expr-fits d left, expr-fits d right)
-line-fits d (ActLine e w) = λ low high. (expr-fits d e, word_value-word d w)
-line-fits d (RayLine e ray) = λ low high. (expr-fits d e, ray-fits d ray)
-line-fits d (OrderLine e text) = λ low high. expr-fits d e
-line-fits d (NucleusLine es) = λ low high. exprs-fit d es
+-- what a line of the grammar says fits, where its tokens are those of a text that is not too long and none of its words is refused
+line-by-tokens : (d : ℕ) (line : LineTree) → AreNumerals (line_tokens line) → tokens_length (line_tokens line) ≤ 4096 → (line_notes d line).not_a_letter ≡ false →
+    FitsLine d (line_value d line)
+line-by-tokens d (AlphabetLine text) n few h = tt
+line-by-tokens d GroupLine n few h = tt
+line-by-tokens d (LetLine name e) n few h = λ low high. expr-fits d e
+line-by-tokens d (ShowLine e) n few h = λ low high. expr-fits d e
+line-by-tokens d (StatesLine e) n few h = λ low high. expr-fits d e
+line-by-tokens d (WreathLine e) n few h = λ low high. expr-fits d e
+line-by-tokens d (ClassLine e) n few h = λ low high. expr-fits d e
+line-by-tokens d (EqLine left right) n few h = λ low high. (expr-fits d left, expr-fits d right)
+line-by-tokens d (ActLine e w) n few h = λ low high. (expr-fits d e, word_value-word d w)
+line-by-tokens d (RayLine e ray) n few h = λ low high. (
+  expr-fits d e,
+  ray-fits d ray (note_expr d e no_notes) (numerals-expr e (spell_ray ray []) n.1) (omega (arith, few, length-expr e (spell_ray ray []))) h,
+)
+line-by-tokens d (OrderLine e text) n few h = λ low high. expr-fits d e
+line-by-tokens d (NucleusLine es) n few h = λ low high. exprs-fit d es
+
+-- what a line of at most 4,096 bytes says fits the alphabet over which it is read, where none of its words is refused
+pub line-fits : (d : ℕ) (text : List ℕ) (line : LineTree) → lexemes (tokens_of text) ≡ line_tokens line → length text ≤ 4096 → (line_notes d line).not_a_letter ≡ false →
+    FitsLine d (line_value d line)
+line-fits d text line e few h =
+    line-by-tokens d line (subst (λ ts. AreNumerals ts) e (tokens_of-numerals text)) (omega (arith, ap tokens_length e, tokens_of-length text, few)) h

@@ -1,13 +1,14 @@
 -- Tokens from the front on.
 use Rattle.std.proofs.Common.{◌≡◌, ℕ, zero, suc, ◌+◌, ◌-◌, ◌<◌, ◌≤◌, Bool, true, false, List, [], ◌∷◌, ◌++◌, length, take, drop, get_or, take_while, refl, ap, sym, ◌∙◌, cond, arith, add-one, map, append_assoc, append-nil, drop-cons}
+use Rattle.std.proofs.Math.Dec.{eqb-suc-zero}
 use Rattle.std.proofs.Math.Seq.{take-length}
 use Rattle.std.proofs.Common.{nat_lt, ◌||◌, ◌==◌}
 use Rattle.std.proofs.lemmas.Bool.{lt-ltb, le-ltb}
-use Rattle.std.proofs.lemmas.List.{drop_all, drop-map}
+use Rattle.std.proofs.lemmas.List.{drop_all, drop-map, length-drop}
 use Rattle.fr_syntax.specs.declared.token.Placed.{Placed}
 use Rattle.std.proofs.lemmas.List.Sums.{take_while-cons}
 use Rattle.fr_syntax.specs.Tokens.{Lexeme, Name, Number, Sign}
-use Rattle.fr_syntax.specs.Lines.{Located, is_blank, is_letter, is_digit, is_name_byte, mark_of, rest_of_token, lexeme_of, tokens_at, located, lexeme, place_of, round_after, square_after, passes_nesting}
+use Rattle.fr_syntax.specs.Lines.{Located, lexemes, tokens_of, is_blank, is_letter, is_digit, is_name_byte, mark_of, rest_of_token, lexeme_of, tokens_at, located, lexeme, place_of, round_after, square_after, passes_nesting}
 
 front_by : (x : ℕ) (xs kept : List ℕ) (b : Bool) → take (length kept) xs ≡ kept → take (length (cond b (x ∷ kept) [])) (x ∷ xs) ≡ cond b (x ∷ kept) []
 front_by x xs kept true h = ap (λ l. x ∷ l) h
@@ -106,6 +107,10 @@ pub tail_slice : (text : List ℕ) → take (length text - 1) (drop 1 text) ≡ 
 tail_slice [] = refl
 tail_slice (c ∷ cs) = let e : length (c ∷ cs) - 1 ≡ length cs = omega arith in rw e (take-length cs)
 
+-- all from a place on, as a slice
+pub rest_slice : (k : ℕ) (text : List ℕ) → take (length text - k) (drop k text) ≡ drop k text
+rest_slice k text = ap (λ m. take m (drop k text)) (sym (length-drop k text)) ∙ take-length (drop k text)
+
 -- nothing is left at the end
 pub no_more : (found whole : List Located) (p i : ℕ) (text : List ℕ) → length text ≤ i → found ++ tokens_at p 0 (drop i text) ≡ whole → found ≡ whole
 no_more found whole p i text h told = sym (append-nil found) ∙ (rw (drop_all i text h) at told)
@@ -168,3 +173,36 @@ nests_false r q r' q' k tokens missing whole h f g few e =
     ap (λ n. passes_nesting n q' (drop (k + 1) (map lexeme tokens))) f
     ∙ ap (λ n. passes_nesting (round_after r (lexeme (get_or tokens k missing))) n (drop (k + 1) (map lexeme tokens))) g
     ∙ test_false r q r' q' (lexeme (get_or tokens k missing)) _ whole f g few (nests_on r q k tokens missing whole h e)
+
+true-false : true ≡ false → ⊥
+true-false h = cc
+
+-- a text of blanks has no first token
+pub front_none : (text rest : List ℕ) → ((p : ℕ) → tokens_at p 0 text ≡ tokens_at (p + (length text - length rest)) 0 rest) → (length rest == 0) ≡ true →
+    lexemes (tokens_of text) ≡ []
+unfolding tokens_of
+front_none text [] same h = ap lexemes (same 1)
+front_none text (c ∷ cs) same h = absurd (true-false (sym h ∙ eqb-suc-zero (length cs)))
+
+is_last : (p : ℕ) (rest : List ℕ) → (0 < length rest → is_blank (get_or rest 0 0) ≡ false) → (length rest == 0) ≡ (length (lexemes (tokens_at p 0 rest)) == 0)
+is_last p [] solid = refl
+is_last p (c ∷ cs) solid =
+    let h : is_blank c ≡ false = solid (omega arith) in
+    rw h (eqb-suc-zero (length cs) ∙ sym (eqb-suc-zero (length (lexemes (tokens_at (suc p) (length (rest_of_token c cs)) cs)))))
+
+-- the first token behind blanks, and those behind it
+pub front_some : (text solid rest : List ℕ) (t : Lexeme) (n : ℕ) (only : Bool) →
+    ((p : ℕ) → tokens_at p 0 text ≡ tokens_at (p + (length text - length solid)) 0 solid) →
+    ((p : ℕ) → tokens_at p 0 solid ≡ record { lexeme = t; place = p; after = p + n } ∷ tokens_at (p + n) 0 (drop n solid)) →
+    ((p : ℕ) → tokens_at p 0 (take (length solid - n) (drop n solid)) ≡ tokens_at (p + (length (take (length solid - n) (drop n solid)) - length rest)) 0 rest) →
+    (0 < length rest → is_blank (get_or rest 0 0) ≡ false) → only ≡ (length rest == 0) →
+    (more : List Lexeme) × (lexemes (tokens_of text) ≡ t ∷ more) × (only ≡ (length more == 0))
+unfolding tokens_of
+front_some text solid rest t n only blanks first between ends o =
+    let p : ℕ = 1 + (length text - length solid) in
+    let q : ℕ = p + n + (length (take (length solid - n) (drop n solid)) - length rest) in
+    let behind : tokens_at (p + n) 0 (drop n solid) ≡ tokens_at q 0 rest = ap (tokens_at (p + n) 0) (sym (rest_slice n solid)) ∙ between (p + n) in (
+      lexemes (tokens_at q 0 rest),
+      ap lexemes (blanks 1 ∙ first p) ∙ ap (λ l. t ∷ lexemes l) behind,
+      o ∙ is_last q rest ends,
+    )

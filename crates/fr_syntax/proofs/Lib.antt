@@ -11,5 +11,6 @@ pub mod LexerLaws
 pub mod RecursionLaws
 pub mod RecursionValueLaws
 pub mod FaultLaws
+pub mod TextLaws
 pub mod FitLaws
 pub mod SizeLaws

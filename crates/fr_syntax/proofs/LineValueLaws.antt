@@ -7,6 +7,7 @@ use Rattle.fr_syntax.specs.declared.keyword.Keyword.{Keyword}
 use Rattle.fr_syntax.specs.declared.keyword.Keyword.TheVariants as k
 use Rattle.fr_syntax.specs.declared.notes.Notes.{Notes}
 use Rattle.fr_syntax.specs.declared.tree.Expr.{Expr}
+use Rattle.fr_syntax.specs.declared.tree.Factor.{Factor}
 use Rattle.fr_syntax.specs.declared.reader.ReadExpr.{ReadExpr}
 use Rattle.fr_syntax.specs.declared.unfinished.Frame.{Frame}
 use Rattle.fr_syntax.specs.declared.unfinished.Place.{Place}
@@ -25,8 +26,8 @@ use Rattle.fr_syntax.specs.Values.{no_notes, letters_of, expr_value, note_expr, 
 use Rattle.fr_syntax.specs.Steps as e
 use Rattle.fr_syntax.specs.LineValues.{exprs_value, note_exprs, line_value, line_notes, line_read, Reads}
 use Rattle.fr_syntax.specs.LineSteps as spec
-use Rattle.fr_syntax.proofs.Zipper.{TStep, Next, Ends, Stuck, TFrame, TPlace, AtAtom, AtNegative, AtWord, AtEnd, step_tree, begun_tree}
-use Rattle.fr_syntax.proofs.ValueLaws.{reader_value, step_value, frames_value, place_value, kept}
+use Rattle.fr_syntax.proofs.Zipper.{TStep, Next, Ends, Stuck, TFrame, Start, Conj, TPlace, AtAtom, AtNegative, AtWord, AtEnd, step_tree, begun_tree}
+use Rattle.fr_syntax.proofs.ValueLaws.{reader_value, step_value, frames_value, place_factors, place_value, kept}
 use Rattle.fr_syntax.proofs.LineZipper.{TGoal, ForLet, ForShow, ForStates, ForWreath, ForClass, ForFirst, ForSecond, ForAct, ForRay, ForOrder, ForNucleus, TSpot, AtKeyword, AtAlphabet, AtLetName, AtLetEquals, InExpr, AtRayOpen, AtRayPeriod, AtRayClose, Done, keyword_tree, fresh_tree, follow_tree, on_tree, take_tree, finish_place_tree, finish_reader_tree, ended_tree, finish_tree}
 use Rattle.fr_syntax.proofs.LineLaws.{exact_lines}
 use Rattle.fr_syntax.proofs.Runs.{Outcome, Found, Fault, at_end, go_on, outcome_from, Tells, tells}
@@ -140,18 +141,19 @@ abbrev pub expr_found : ℕ → Notes → Option ExprTree → Option ReadExpr
 expr_found d notes None = None
 expr_found d notes (Some expr) = Some (record { expr = expr_value d expr; notes = note_expr d expr notes })
 
-none_open : (outer : List Frame) (frame : Frame) (place : Place) (notes : Notes) → e.finish_place (outer ++ frame ∷ []) place notes ≡ None
-none_open [] frame place notes = refl
-none_open (other ∷ outer) frame place notes = refl
+none_open : (outer : List Frame) (frame : Frame) (factors : List Factor) (place : Place) (notes : Notes) → e.finish_place (outer ++ frame ∷ []) factors place notes ≡ None
+none_open [] frame factors place notes = refl
+none_open (other ∷ outer) frame factors place notes = refl
 
 same_place : (d : ℕ) (notes : Notes) (frames : List TFrame) (place : TPlace) →
     e.finish (reader_value d notes (record { frames = frames; place = place })) ≡ expr_found d notes (finish_place_tree frames place)
-same_place d notes [] (AtAtom hole) = refl
+same_place d notes [] (AtAtom (Start before)) = refl
+same_place d notes [] (AtAtom (Conj before factor)) = refl
 same_place d notes [] (AtNegative before factor) = refl
 same_place d notes [] (AtWord before factor) = refl
 same_place d notes [] (AtEnd None factor) = refl
 same_place d notes [] (AtEnd (Some expr) factor) = refl
-same_place d notes (frame ∷ frames) place = none_open (frames_value d frames) _ (place_value d place) _
+same_place d notes (frame ∷ frames) place = none_open (frames_value d frames) _ (place_factors d place) (place_value place) _
 
 same_ended : (d : ℕ) (goal : TGoal) (found : Option ExprTree) →
     spec.ended_by (goal_value d goal) (expr_found d (goal_notes d goal) found) ≡ found_value d (ended_tree goal found)

@@ -1,5 +1,5 @@
 -- What a line says over an alphabet of d letters: its words and permutations are over it. This is the project's own notion.
-use Rattle.std.specs.Prelude.{ℕ, ◌≡◌, ◌<◌, ◌≤◌, Bool, List, [], ◌∷◌, length}
+use Rattle.std.specs.Prelude.{ℕ, ◌≡◌, ◌+◌, ◌<◌, ◌≤◌, Bool, List, [], ◌∷◌, length}
 use Rattle.fr_model.specs.Words.{IsWord}
 use Rattle.fr_model.specs.Permutations.{IsPermutation}
 use Rattle.fr_syntax.specs.declared.tree.Expr.{Expr, out-Expr}
@@ -67,10 +67,12 @@ abbrev pub FitsRecursions : ℕ → ℕ → ℕ → List Recursion → Type 0
 FitsRecursions d low high [] = low ≤ high
 FitsRecursions d low high (r ∷ rs) = (low < r.line) × FitsRecursion d r × FitsRecursions d r.line high rs
 
--- letters of the alphabet alone
+-- letters of the alphabet alone, at most 4,096, and some of them in the period
 pub record FitsRay (d : ℕ) (ray : Ray) : Type 0 where
   pub before : IsWord d ray.before
   pub period : IsWord d ray.period
+  pub some : 0 < length ray.period
+  pub most : length ray.before + length ray.period ≤ 4096
 
 -- what an item says whose lines are those from `low` to `high`
 abbrev pub FitsStatement : ℕ → ℕ → ℕ → Statement → Type 0

@@ -1,3 +1,4 @@
+pub mod Names
 pub mod Tokens
 pub mod Grammar
 pub mod Values
@@ -7,6 +8,7 @@ pub mod LineSteps
 pub mod Faults
 pub mod LineValues
 pub mod Lines
+pub mod Fronts
 pub mod Fits
 pub mod Sizes
 pub mod Recursions

@@ -1,5 +1,5 @@
 -- One step of the reader of lines outside a block, over the values that it keeps.
-use Rattle.std.specs.Prelude.{ℕ, suc, List, [], ◌∷◌, ◌++◌, Option, Some, None}
+use Rattle.std.specs.Prelude.{ℕ, suc, Bool, true, false, List, [], ◌∷◌, ◌++◌, Option, Some, None}
 use Rattle.fr_syntax.specs.declared.token.Mark.TheVariants as m
 use Rattle.fr_syntax.specs.declared.keyword.Keyword.{Keyword}
 use Rattle.fr_syntax.specs.declared.keyword.Keyword.TheVariants as k
@@ -7,10 +7,7 @@ use Rattle.fr_syntax.specs.declared.notes.Notes.{Notes}
 use Rattle.fr_syntax.specs.declared.tree.Expr.{Expr}
 use Rattle.fr_syntax.specs.declared.statement.Statement.{Statement}
 use Rattle.fr_syntax.specs.declared.statement.Statement.TheVariants as st
-use Rattle.fr_syntax.specs.declared.reader.Reader.{Reader}
 use Rattle.fr_syntax.specs.declared.reader.ReadExpr.{ReadExpr}
-use Rattle.fr_syntax.specs.declared.reader.Step.{Step}
-use Rattle.fr_syntax.specs.declared.reader.Step.TheVariants as s
 use Rattle.fr_syntax.specs.declared.line.Line.TheVariants as l
 use Rattle.fr_syntax.specs.declared.line.Goal.{Goal}
 use Rattle.fr_syntax.specs.declared.line.Goal.TheVariants as g
@@ -49,10 +46,10 @@ keyword_step (Some k.Order) = begin g.Order
 keyword_step (Some k.Nucleus) = begin (g.Nucleus [])
 
 -- the first token of an expression that begins at once
-abbrev pub on_fresh : Goal → Step → Option Spot
-on_fresh goal (s.Next reader) = Some (sp.Expr goal reader)
-on_fresh goal (s.Ends expr notes) = None
-on_fresh goal s.Stuck = None
+abbrev pub on_fresh : Goal → e.Stepped → Option Spot
+on_fresh goal (e.Next reader) = Some (sp.Expr goal reader)
+on_fresh goal (e.Ends expr notes) = None
+on_fresh goal e.Stuck = None
 
 -- the word of `act`
 abbrev pub act_step : ℕ → Expr → Notes → Lexeme → Option Spot
@@ -86,14 +83,10 @@ follow d (g.Nucleus exprs) expr notes token = nucleus_step exprs expr notes toke
 follow d _ expr notes token = None
 
 -- what a token does that the reader of the expression took, or that stands behind it
-abbrev pub on_step : ℕ → Goal → Lexeme → Step → Option Spot
-on_step d goal token (s.Next reader) = Some (sp.Expr goal reader)
-on_step d goal token (s.Ends expr notes) = follow d goal expr notes token
-on_step d goal token s.Stuck = None
-
--- a token in an expression or behind it
-abbrev pub expr_step : ℕ → Goal → Reader → Lexeme → Option Spot
-expr_step d goal reader token = on_step d goal token (e.step d reader token)
+abbrev pub on_step : ℕ → Goal → Lexeme → e.Stepped → Option Spot
+on_step d goal token (e.Next reader) = Some (sp.Expr goal reader)
+on_step d goal token (e.Ends expr notes) = follow d goal expr notes token
+on_step d goal token e.Stuck = None
 
 -- the period of a ray
 abbrev pub period_step : ℕ → Expr → List ℕ → Notes → Lexeme → Option Spot
@@ -105,17 +98,31 @@ abbrev pub close_ray : Expr → List ℕ → List ℕ → Notes → Lexeme → O
 close_ray expr before period notes (Sign m.RightParen) = says (st.RayOf expr (record { before = before; period = period })) notes
 close_ray expr before period notes _ = None
 
+-- a token behind the expression that was read here
+abbrev pub follow_expr : ℕ → Spot → Expr → Lexeme → Option Spot
+follow_expr d (sp.Expr goal reader) expr token = follow d goal expr reader.notes token
+follow_expr d _ expr token = None
+
+-- one token outside an expression
+abbrev pub take_outside : ℕ → Spot → Lexeme → Option Spot
+take_outside d sp.Keyword (Name text) = keyword_step (keyword_of text)
+take_outside d sp.AlphabetNumber (Number text) = Some (sp.Whole (l.Alphabet (capped_value text)) no_notes)
+take_outside d sp.LetName (Name name) = Some (sp.LetEquals name)
+take_outside d (sp.LetEquals name) (Sign m.Equals) = begin (g.Let name)
+take_outside d (sp.RayOpen expr before notes) (Sign m.LeftParen) = Some (sp.RayPeriod expr before notes)
+take_outside d (sp.RayPeriod expr before notes) token = period_step d expr before notes token
+take_outside d (sp.RayClose expr before period notes) token = close_ray expr before period notes token
+take_outside d _ token = None
+
 -- one token
 abbrev pub take : ℕ → Spot → Lexeme → Option Spot
-take d sp.Keyword (Name text) = keyword_step (keyword_of text)
-take d sp.AlphabetNumber (Number text) = Some (sp.Whole (l.Alphabet (capped_value text)) no_notes)
-take d sp.LetName (Name name) = Some (sp.LetEquals name)
-take d (sp.LetEquals name) (Sign m.Equals) = begin (g.Let name)
-take d (sp.Expr goal reader) token = expr_step d goal reader token
-take d (sp.RayOpen expr before notes) (Sign m.LeftParen) = Some (sp.RayPeriod expr before notes)
-take d (sp.RayPeriod expr before notes) token = period_step d expr before notes token
-take d (sp.RayClose expr before period notes) token = close_ray expr before period notes token
-take d _ token = None
+take d (sp.Expr goal reader) token = on_step d goal token (e.step d reader token)
+take d spot token = take_outside d spot token
+
+-- where the program went on, if it did
+abbrev pub moved : Bool → Spot → Option Spot
+moved true spot = Some spot
+moved false spot = None
 
 -- the line, where it is whole
 abbrev pub told : Statement → Notes → Option ReadLine

@@ -6,11 +6,10 @@ use Rattle.fr_syntax.specs.declared.tree.Expr.{Expr}
 use Rattle.fr_syntax.specs.declared.tree.Factor.{Factor}
 use Rattle.fr_syntax.specs.declared.tree.Atom.{Atom}
 use Rattle.fr_syntax.specs.declared.tree.Atom.TheVariants as a
+use Rattle.fr_syntax.specs.declared.tree.Op.{Op}
 use Rattle.fr_syntax.specs.declared.tree.Op.TheVariants as o
 use Rattle.fr_syntax.specs.declared.unfinished.Open.{Open}
 use Rattle.fr_syntax.specs.declared.unfinished.Open.TheVariants as open_
-use Rattle.fr_syntax.specs.declared.unfinished.Hole.{Hole}
-use Rattle.fr_syntax.specs.declared.unfinished.Hole.TheVariants as h
 use Rattle.fr_syntax.specs.declared.unfinished.Frame.{Frame}
 use Rattle.fr_syntax.specs.declared.unfinished.Place.{Place}
 use Rattle.fr_syntax.specs.declared.unfinished.Place.TheVariants as p
@@ -21,98 +20,112 @@ use Rattle.fr_syntax.specs.declared.reader.Step.TheVariants as s
 use Rattle.fr_syntax.specs.Tokens.{Lexeme, Name, Number, Sign}
 use Rattle.fr_syntax.specs.Values.{with_op, plain, product, capped_value, letters_of, note_power, note_digits}
 
+-- what a token does to an expression: it belongs to it, it stands after it, or neither
+pub data Stepped : Type 0 where
+  Next : Reader → Stepped
+  Ends : Expr → Notes → Stepped
+  Stuck : Stepped
+
+-- what a step of the program did, which left this reader
+abbrev pub stepped : Step → Reader → Stepped
+stepped s.Next reader = Next reader
+stepped (s.Ends expr) reader = Ends expr reader.notes
+stepped s.Stuck reader = Stuck
+
 -- the expression goes on
-abbrev pub next : List Frame → Place → Notes → Step
-next frames place notes = s.Next (record { frames = frames; place = place; notes = notes })
+abbrev pub next : List Frame → List Factor → Place → Notes → Stepped
+next frames factors place notes = Next (record { frames = frames; factors = factors; place = place; notes = notes })
 
 -- the text of the number 1
 unfoldable pub is_one : List ℕ → Bool
 is_one text = length text == 1 && slice_index text 0 == 49
 
--- an atom in its place
-abbrev pub fill : Hole → Atom → Place
-fill (h.Start factors) atom = p.After factors (plain atom)
-fill (h.Conj factors factor) atom = p.After factors (with_op factor (o.Conj atom))
+-- one operation more on the last factor
+abbrev pub add_op : List Factor → Op → List Factor
+add_op [] op = []
+add_op (factor ∷ []) op = with_op factor op ∷ []
+add_op (factor ∷ other ∷ more) op = factor ∷ add_op (other ∷ more) op
+
+-- the factors with an atom in its place
+abbrev pub fill : List Factor → Place → Atom → List Factor
+fill factors p.Power atom = add_op factors (o.Conj atom)
+fill factors _ atom = factors ++ plain atom ∷ []
 
 -- a bracket is opened
-abbrev pub opened : List Frame → Open → Hole → Notes → Step
-opened frames open_ hole notes = next (frames ++ record { «open» = open_; hole = hole } ∷ []) (p.Atom (h.Start [])) notes
+abbrev pub opened : List Frame → Open → List Factor → Place → Notes → Stepped
+opened frames open_ factors place notes = next (frames ++ record { «open» = open_; factors = factors; place = place } ∷ []) [] p.Atom notes
 
 -- a number where an atom may stand
-abbrev pub number_step : List Frame → Hole → Notes → List ℕ → Step
-number_step frames (h.Start factors) notes text =
-    if is_one text then next frames (p.After factors (plain a.One)) notes else s.Stuck
-number_step frames (h.Conj factors factor) notes text =
-    next frames (p.After factors (with_op factor (o.Power false (capped_value text)))) (note_power text notes)
+abbrev pub number_step : List Frame → List Factor → Place → Notes → List ℕ → Stepped
+number_step frames factors p.Power notes text = next frames (add_op factors (o.Power false (capped_value text))) p.After (note_power text notes)
+number_step frames factors _ notes text = if is_one text then next frames (factors ++ plain a.One ∷ []) p.After notes else Stuck
 
 -- the `-` of a power
-abbrev pub minus_step : List Frame → Hole → Notes → Step
-minus_step frames (h.Start factors) notes = s.Stuck
-minus_step frames (h.Conj factors factor) notes = next frames (p.Negative factors factor) notes
+abbrev pub minus_step : List Frame → List Factor → Place → Notes → Stepped
+minus_step frames factors p.Power notes = next frames factors p.Negative notes
+minus_step frames factors _ notes = Stuck
 
 -- a token where an atom may stand
-abbrev pub atom_step : List Frame → Hole → Notes → Lexeme → Step
-atom_step frames hole notes (Name name) = next frames (fill hole (a.Named name)) notes
-atom_step frames hole notes (Number text) = number_step frames hole notes text
-atom_step frames hole notes (Sign m.LeftParen) = opened frames open_.Paren hole notes
-atom_step frames hole notes (Sign m.LeftBracket) = opened frames open_.First hole notes
-atom_step frames hole notes (Sign m.Minus) = minus_step frames hole notes
-atom_step frames hole notes _ = s.Stuck
+abbrev pub atom_step : List Frame → List Factor → Place → Notes → Lexeme → Stepped
+atom_step frames factors place notes (Name name) = next frames (fill factors place (a.Named name)) p.After notes
+atom_step frames factors place notes (Number text) = number_step frames factors place notes text
+atom_step frames factors place notes (Sign m.LeftParen) = opened frames open_.Paren factors place notes
+atom_step frames factors place notes (Sign m.LeftBracket) = opened frames open_.First factors place notes
+atom_step frames factors place notes (Sign m.Minus) = minus_step frames factors place notes
+atom_step frames factors place notes _ = Stuck
 
 -- the number of a negative power
-abbrev pub negative_step : List Frame → List Factor → Factor → Notes → Lexeme → Step
-negative_step frames factors factor notes (Number text) =
-    next frames (p.After factors (with_op factor (o.Power true (capped_value text)))) (note_power text notes)
-negative_step frames factors factor notes _ = s.Stuck
+abbrev pub negative_step : List Frame → List Factor → Notes → Lexeme → Stepped
+negative_step frames factors notes (Number text) = next frames (add_op factors (o.Power true (capped_value text))) p.After (note_power text notes)
+negative_step frames factors notes _ = Stuck
 
 -- the word of a section
-abbrev pub word_step : ℕ → List Frame → List Factor → Factor → Notes → Lexeme → Step
-word_step d frames factors factor notes (Number text) =
-    next frames (p.After factors (with_op factor (o.At (letters_of d text)))) (note_digits d text notes)
-word_step d frames factors factor notes (Sign m.Minus) =
-    next frames (p.After factors (with_op factor (o.At []))) notes
-word_step d frames factors factor notes _ = s.Stuck
+abbrev pub word_step : ℕ → List Frame → List Factor → Notes → Lexeme → Stepped
+word_step d frames factors notes (Number text) = next frames (add_op factors (o.At (letters_of d text))) p.After (note_digits d text notes)
+word_step d frames factors notes (Sign m.Minus) = next frames (add_op factors (o.At [])) p.After notes
+word_step d frames factors notes _ = Stuck
 
 -- a token that stands after the innermost expression, whose bracket is open
-abbrev pub close_step : List Frame → Open → Hole → Expr → Notes → Lexeme → Step
-close_step frames open_.Paren hole expr notes (Sign m.RightParen) = next frames (fill hole (a.Paren expr)) notes
-close_step frames open_.First hole expr notes (Sign m.Comma) = opened frames (open_.Second expr) hole notes
-close_step frames (open_.Second left) hole expr notes (Sign m.RightBracket) = next frames (fill hole (a.Comm left expr)) notes
-close_step frames _ hole expr notes _ = s.Stuck
+abbrev pub close_step : List Frame → Open → List Factor → Place → Expr → Notes → Lexeme → Stepped
+close_step frames open_.Paren factors place expr notes (Sign m.RightParen) = next frames (fill factors place (a.Paren expr)) p.After notes
+close_step frames open_.First factors place expr notes (Sign m.Comma) = opened frames (open_.Second expr) factors place notes
+close_step frames (open_.Second left) factors place expr notes (Sign m.RightBracket) = next frames (fill factors place (a.Comm left expr)) p.After notes
+close_step frames _ factors place expr notes _ = Stuck
 
 -- the open brackets and the innermost one; None where there is none
-abbrev pub end_step : List Frame → List Frame → Expr → Notes → Lexeme → Step
-end_step frames [] expr notes token = s.Ends expr notes
-end_step frames (frame ∷ []) expr notes token = close_step frames frame.«open» frame.hole expr notes token
+abbrev pub end_step : List Frame → List Frame → Expr → Notes → Lexeme → Stepped
+end_step frames [] expr notes token = Ends expr notes
+end_step frames (frame ∷ []) expr notes token = close_step frames frame.«open» frame.factors frame.place expr notes token
 end_step frames (frame ∷ other ∷ more) expr notes token = end_step (frames ++ frame ∷ []) (other ∷ more) expr notes token
 
 -- a token after an atom or an operation
-abbrev pub after_step : List Frame → List Factor → Factor → Notes → Lexeme → Step
-after_step frames factors factor notes (Sign m.Star) = next frames (p.Atom (h.Start (factors ++ factor ∷ []))) notes
-after_step frames factors factor notes (Sign m.Caret) = next frames (p.Atom (h.Conj factors factor)) notes
-after_step frames factors factor notes (Sign m.At) = next frames (p.Word factors factor) notes
-after_step frames factors factor notes token = end_step [] frames (product (factors ++ factor ∷ [])) notes token
+abbrev pub after_step : List Frame → List Factor → Notes → Lexeme → Stepped
+after_step frames factors notes (Sign m.Star) = next frames factors p.Atom notes
+after_step frames factors notes (Sign m.Caret) = next frames factors p.Power notes
+after_step frames factors notes (Sign m.At) = next frames factors p.Word notes
+after_step frames factors notes token = end_step [] frames (product factors) notes token
 
 -- a token in its place
-abbrev pub place_step : ℕ → List Frame → Place → Notes → Lexeme → Step
-place_step d frames (p.Atom hole) notes token = atom_step frames hole notes token
-place_step d frames (p.Negative factors factor) notes token = negative_step frames factors factor notes token
-place_step d frames (p.Word factors factor) notes token = word_step d frames factors factor notes token
-place_step d frames (p.After factors factor) notes token = after_step frames factors factor notes token
+abbrev pub place_step : ℕ → List Frame → List Factor → Place → Notes → Lexeme → Stepped
+place_step d frames factors p.Atom notes token = atom_step frames factors p.Atom notes token
+place_step d frames factors p.Power notes token = atom_step frames factors p.Power notes token
+place_step d frames factors p.Negative notes token = negative_step frames factors notes token
+place_step d frames factors p.Word notes token = word_step d frames factors notes token
+place_step d frames factors p.After notes token = after_step frames factors notes token
 
 -- one token
-abbrev pub step : ℕ → Reader → Lexeme → Step
-step d reader token = place_step d reader.frames reader.place reader.notes token
+abbrev pub step : ℕ → Reader → Lexeme → Stepped
+step d reader token = place_step d reader.frames reader.factors reader.place reader.notes token
 
 -- before the first token
 abbrev pub begun : Notes → Reader
-begun notes = record { frames = []; place = p.Atom (h.Start []); notes = notes }
+begun notes = record { frames = []; factors = []; place = p.Atom; notes = notes }
 
 -- a whole expression, where no bracket is open
-abbrev pub finish_place : List Frame → Place → Notes → Option ReadExpr
-finish_place [] (p.After factors factor) notes = Some (record { expr = product (factors ++ factor ∷ []); notes = notes })
-finish_place _ _ notes = None
+abbrev pub finish_place : List Frame → List Factor → Place → Notes → Option ReadExpr
+finish_place [] factors p.After notes = Some (record { expr = product factors; notes = notes })
+finish_place _ factors _ notes = None
 
 -- the expression, where it is whole
 abbrev pub finish : Reader → Option ReadExpr
-finish reader = finish_place reader.frames reader.place reader.notes
+finish reader = finish_place reader.frames reader.factors reader.place reader.notes

@@ -1,8 +1,9 @@
 //! The text of a line, and its tokens.
 
-ghost use Rattle.std.specs.Prelude.{◌≡◌, ◌<◌, ◌≤◌, ◌+◌, ◌∷◌, ℕ, false, IfOk, map, length, drop, take_while, slice_index};
+ghost use Rattle.std.specs.Prelude.{◌≡◌, ◌<◌, ◌≤◌, ◌+◌, ◌-◌, ◌∷◌, ℕ, false, IfOk, map, length, drop, take_while, slice_index};
 ghost use Rattle.fr_syntax.specs.Tokens.{seen};
 ghost use Rattle.fr_syntax.specs.Lines as spec;
+ghost use Rattle.fr_syntax.specs.Fronts.{IsFront};
 
 use crate::token::{Mark, Placed, Token};
 use fr_alphabet::NoMemory;
@@ -133,6 +134,41 @@ fn first_token(text: &[u8]) -> Front<'_>
     }
 }
 
+fn skip_blanks(text: &[u8]) -> &[u8]
+    ensures same { (p : ℕ) → spec.tokens_at p 0 text.now ≡ spec.tokens_at (p + (length text.now - length result.now)) 0 result.now }
+    ensures solid { 0 < length result.now → spec.is_blank (slice_index result.now 0) ≡ false }
+{
+    for (i, c) in text.iter().enumerate() {
+        if !is_blank(*c) {
+            return &text[i..];
+        }
+    }
+    &[]
+}
+
+/// The first token of a text, and whether no other follows it.
+#[derive(Clone, Copy, Debug)]
+pub struct LineFront<'a> {
+    pub token: Token<'a>,
+    pub is_only: bool,
+}
+
+/// The first token of a text; `None` where it has none.
+pub fn line_front(text: &[u8]) -> Option<LineFront<'_>>
+    ensures { IsFront (spec.lexemes (spec.tokens_of text.now)) result }
+{
+    let text = skip_blanks(text);
+    if text.is_empty() {
+        return None;
+    }
+    let first = first_token(text);
+    let rest = skip_blanks(&text[first.length..]);
+    Some(LineFront {
+        token: first.token,
+        is_only: rest.is_empty(),
+    })
+}
+
 /// The tokens of a text, from left to right, with their places from 1.
 ///
 /// A name and a number are as long as possible, a blank only parts tokens, and any other byte is
@@ -140,18 +176,18 @@ fn first_token(text: &[u8]) -> Front<'_>
 pub fn tokens<'a>(alloc: Global, text: &'a [u8]) -> Result<Vec<Placed<'a>>, NoMemory>
     ensures { IfOk result (λ found. map spec.located found.items ≡ spec.tokens_of text.now) }
 {
-    let mut found = Vec::new(alloc);
+    let mut found = Vec::with_capacity(alloc, text.len())?;
     let mut i = 0;
     while i < text.len() {
         if is_blank(text[i]) {
             i += 1;
         } else {
             let front = first_token(&text[i..]);
-            found.push(Placed {
+            found.push_reserved(Placed {
                 token: front.token,
                 place: i + 1,
                 after: i + 1 + front.length,
-            })?;
+            });
             i += front.length;
         }
     }

@@ -7,10 +7,12 @@
 #![tactic(auto)]
 
 mod cycles;
+mod follow;
 mod keyword;
 mod laws;
 mod lexer;
 mod line;
+mod lists;
 mod name;
 mod nesting;
 mod notes;
@@ -28,7 +30,7 @@ mod unfinished;
 
 pub use keyword::Keyword;
 pub use laws::{lines_are_small, lines_are_unambiguous, lines_fit, recursions_are_unambiguous};
-pub use lexer::{code, tokens};
+pub use lexer::{LineFront, code, line_front, tokens};
 pub use line::{Line, LineReading, ReadLine, read_tokens};
 pub use name::Name;
 pub use nesting::{NESTING_LIMIT, passes_nesting};

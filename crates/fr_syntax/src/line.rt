@@ -3,21 +3,23 @@
 ghost use Rattle.std.specs.Prelude.{◌≡◌, IfOk, map};
 ghost use Rattle.fr_syntax.specs.Tokens.{seen};
 ghost use Rattle.fr_syntax.specs.Lines.{lexeme};
-ghost use Rattle.fr_syntax.specs.Steps.{step, begun};
 ghost use Rattle.fr_syntax.specs.LineSteps as spec;
 ghost use Rattle.fr_syntax.specs.LineValues.{Reads};
 
+use crate::follow::follow;
 use crate::keyword::Keyword;
+use crate::lists::{exact, push};
 use crate::name::Name;
 use crate::notes::Notes;
-use crate::numbers::{empty_word, exponent, word};
-use crate::reader::{ReadExpr, Reader, Step, note_digits, note_power};
+use crate::numbers::{exponent, word};
+use crate::reader::{ReadExpr, Reader, Step, note_digits};
 use crate::statement::{Ray, Statement};
 use crate::token::{Mark, Placed, Token};
 use crate::tree::Expr;
 use fr_alphabet::{Alphabet, NoMemory, Word};
 use sqlite_items::Items;
 use std::alloc::Global;
+use std::mem::replace;
 
 /// What a line outside a block says by itself.
 #[derive(Drop)]
@@ -81,7 +83,8 @@ pub enum LineReading {
     Syntax(usize),
 }
 
-fn says(statement: Statement, notes: Notes) -> Option<Spot>
+/// The line is whole, and says this.
+pub fn says(statement: Statement, notes: Notes) -> Option<Spot>
     ensures { result ≡ spec.says statement notes }
 {
     Some(Spot::Whole(Line::Says(statement), notes))
@@ -112,125 +115,19 @@ fn keyword_step(alloc: Global, keyword: Option<Keyword>) -> Option<Spot>
     }
 }
 
-fn second_step(
+/// A token after an expression that was read for this.
+fn follow_expr(
     alloc: Global,
     a: Alphabet,
-    left: Expr,
-    notes: Notes,
-    token: Token<'_>,
-) -> Result<Option<Spot>, NoMemory>
-    ensures { IfOk result (λ s. s ≡ spec.on_fresh (Goal.Second left) (step a (begun notes) (seen token.entry))) }
-{
-    match Reader::new(alloc, notes).step(alloc, a, token)? {
-        Step::Next(reader) => Ok(Some(Spot::Expr(Goal::Second(left), reader))),
-        _ => Ok(None),
-    }
-}
-
-fn act_step(
-    alloc: Global,
-    a: Alphabet,
+    spot: Spot,
     expr: Expr,
-    notes: Notes,
     token: Token<'_>,
 ) -> Result<Option<Spot>, NoMemory>
-    ensures { IfOk result (λ s. s ≡ spec.act_step a expr notes (seen token.entry)) }
+    ensures { IfOk result (λ s. s ≡ spec.follow_expr a spot expr (seen token.entry)) }
 {
-    match token {
-        Token::Number(digits) => {
-            let read = word(alloc, a, digits)?;
-            let notes = note_digits(notes, read.refused);
-            Ok(says(Statement::Act(expr, read.word), notes))
-        }
-        Token::Mark(Mark::Minus) => Ok(says(Statement::Act(expr, empty_word(alloc)), notes)),
+    match spot {
+        Spot::Expr(goal, reader) => follow(alloc, a, goal, expr, reader.notes, token),
         _ => Ok(None),
-    }
-}
-
-fn ray_step(
-    alloc: Global,
-    a: Alphabet,
-    expr: Expr,
-    notes: Notes,
-    token: Token<'_>,
-) -> Result<Option<Spot>, NoMemory>
-    ensures { IfOk result (λ s. s ≡ spec.ray_step a expr notes (seen token.entry)) }
-{
-    match token {
-        Token::Number(digits) => {
-            let read = word(alloc, a, digits)?;
-            let notes = note_digits(notes, read.refused);
-            Ok(Some(Spot::RayOpen(expr, read.word, notes)))
-        }
-        Token::Mark(Mark::LeftParen) => Ok(Some(Spot::RayPeriod(expr, empty_word(alloc), notes))),
-        _ => Ok(None),
-    }
-}
-
-fn order_step(expr: Expr, notes: Notes, token: Token<'_>) -> Option<Spot>
-    ensures { result ≡ spec.order_step expr notes (seen token.entry) }
-{
-    match token {
-        Token::Number(digits) => {
-            let notes = note_power(notes, digits);
-            says(Statement::Order(expr, exponent(digits)), notes)
-        }
-        _ => None,
-    }
-}
-
-fn nucleus_step(
-    alloc: Global,
-    mut exprs: Items<Expr>,
-    expr: Expr,
-    notes: Notes,
-    token: Token<'_>,
-) -> Result<Option<Spot>, NoMemory>
-    ensures { IfOk result (λ s. s ≡ spec.nucleus_step exprs expr notes (seen token.entry)) }
-{
-    match token {
-        Token::Mark(Mark::Comma) => {
-            exprs.push(expr)?;
-            Ok(Some(Spot::Expr(Goal::Nucleus(exprs), Reader::new(alloc, notes))))
-        }
-        _ => Ok(None),
-    }
-}
-
-/// A token after an expression.
-fn follow(
-    alloc: Global,
-    a: Alphabet,
-    goal: Goal,
-    expr: Expr,
-    notes: Notes,
-    token: Token<'_>,
-) -> Result<Option<Spot>, NoMemory>
-    ensures { IfOk result (λ s. s ≡ spec.follow a goal expr notes (seen token.entry)) }
-{
-    match goal {
-        Goal::First => second_step(alloc, a, expr, notes, token),
-        Goal::Act => act_step(alloc, a, expr, notes, token),
-        Goal::Ray => ray_step(alloc, a, expr, notes, token),
-        Goal::Order => Ok(order_step(expr, notes, token)),
-        Goal::Nucleus(exprs) => nucleus_step(alloc, exprs, expr, notes, token),
-        _ => Ok(None),
-    }
-}
-
-fn expr_step(
-    alloc: Global,
-    a: Alphabet,
-    goal: Goal,
-    reader: Reader,
-    token: Token<'_>,
-) -> Result<Option<Spot>, NoMemory>
-    ensures { IfOk result (λ s. s ≡ spec.expr_step a goal reader (seen token.entry)) }
-{
-    match reader.step(alloc, a, token)? {
-        Step::Next(reader) => Ok(Some(Spot::Expr(goal, reader))),
-        Step::Ends(expr, notes) => follow(alloc, a, goal, expr, notes, token),
-        Step::Stuck => Ok(None),
     }
 }
 
@@ -266,14 +163,61 @@ fn close_ray(expr: Expr, before: Word, period: Word, notes: Notes, token: Token<
 }
 
 impl Spot {
-    /// Goes on by a token; None where no line goes on so.
-    pub fn take(
-        self,
+    /// Goes on by a token; false where no line goes on so, and then the spot tells nothing.
+    pub fn take(&mut self, alloc: Global, a: Alphabet, token: Token<'_>) -> Result<bool, NoMemory>
+        ensures { IfOk result (λ goes. spec.moved goes self.new ≡ spec.take a self.old (seen token.entry)) }
+    {
+        match self {
+            // An expression is read in place, since a line may have many tokens in it.
+            Spot::Expr(_, reader) => match reader.step(alloc, a, token)? {
+                Step::Next => Ok(true),
+                Step::Ends(expr) => self.end_expr(alloc, a, expr, token),
+                Step::Stuck => Ok(false),
+            },
+            _ => self.take_outside(alloc, a, token),
+        }
+    }
+
+    fn end_expr(
+        &mut self,
+        alloc: Global,
+        a: Alphabet,
+        expr: Expr,
+        token: Token<'_>,
+    ) -> Result<bool, NoMemory>
+        ensures { IfOk result (λ goes. spec.moved goes self.new ≡ spec.follow_expr a self.old expr (seen token.entry)) }
+    {
+        let next = follow_expr(alloc, a, replace(self, Spot::Keyword), expr, token)?;
+        Ok(self.move_to(next))
+    }
+
+    fn take_outside(
+        &mut self,
         alloc: Global,
         a: Alphabet,
         token: Token<'_>,
-    ) -> Result<Option<Spot>, NoMemory>
-        ensures { IfOk result (λ s. s ≡ spec.take a self (seen token.entry)) }
+    ) -> Result<bool, NoMemory>
+        ensures { IfOk result (λ goes. spec.moved goes self.new ≡ spec.take_outside a self.old (seen token.entry)) }
+    {
+        let next = replace(self, Spot::Keyword).after(alloc, a, token)?;
+        Ok(self.move_to(next))
+    }
+
+    fn move_to(&mut self, next: Option<Spot>) -> bool
+        ensures { spec.moved result self.new ≡ next }
+    {
+        match next {
+            Some(next) => {
+                *self = next;
+                true
+            }
+            None => false,
+        }
+    }
+
+    /// What comes after a token outside an expression; `None` where no line goes on so.
+    fn after(self, alloc: Global, a: Alphabet, token: Token<'_>) -> Result<Option<Spot>, NoMemory>
+        ensures { IfOk result (λ s. s ≡ spec.take_outside a self (seen token.entry)) }
     {
         match (self, token) {
             (Spot::Keyword, Token::Name(text)) => Ok(keyword_step(alloc, Keyword::of(text))),
@@ -287,7 +231,6 @@ impl Spot {
             (Spot::LetEquals(name), Token::Mark(Mark::Equals)) => {
                 Ok(begin(alloc, Goal::Let(name)))
             }
-            (Spot::Expr(goal, reader), token) => expr_step(alloc, a, goal, reader, token),
             (Spot::RayOpen(expr, before, notes), Token::Mark(Mark::LeftParen)) => {
                 Ok(Some(Spot::RayPeriod(expr, before, notes)))
             }
@@ -302,13 +245,13 @@ impl Spot {
     }
 
     /// The line, where it is whole.
-    pub fn finish(self) -> Result<Option<ReadLine>, NoMemory>
+    pub fn finish(self, alloc: Global) -> Result<Option<ReadLine>, NoMemory>
         ensures { IfOk result (λ s. s ≡ spec.finish self) }
     {
         match self {
             Spot::Whole(line, notes) => Ok(Some(ReadLine { line, notes })),
-            Spot::Expr(goal, reader) => match reader.finish()? {
-                Some(found) => ended(goal, found),
+            Spot::Expr(goal, reader) => match reader.finish(alloc)? {
+                Some(found) => ended(alloc, goal, found),
                 None => Ok(None),
             },
             _ => Ok(None),
@@ -325,7 +268,7 @@ fn told(statement: Statement, notes: Notes) -> Option<ReadLine>
     })
 }
 
-fn ended(goal: Goal, found: ReadExpr) -> Result<Option<ReadLine>, NoMemory>
+fn ended(alloc: Global, goal: Goal, found: ReadExpr) -> Result<Option<ReadLine>, NoMemory>
     ensures { IfOk result (λ s. s ≡ spec.ended goal found) }
 {
     let ReadExpr { expr, notes } = found;
@@ -337,8 +280,8 @@ fn ended(goal: Goal, found: ReadExpr) -> Result<Option<ReadLine>, NoMemory>
         Goal::ClassOf => Ok(told(Statement::ClassOf(expr), notes)),
         Goal::Second(left) => Ok(told(Statement::Eq(left, expr), notes)),
         Goal::Nucleus(mut exprs) => {
-            exprs.push(expr)?;
-            Ok(told(Statement::NucleusOf(exprs), notes))
+            push(alloc, &mut exprs, expr)?;
+            Ok(told(Statement::NucleusOf(exact(alloc, exprs)?), notes))
         }
         _ => Ok(None),
     }
@@ -362,12 +305,11 @@ fn step_through(alloc: Global, a: Alphabet, tokens: &[Placed<'_>]) -> Result<Lin
 {
     let mut spot = Spot::Keyword;
     for (k, token) in tokens.iter().enumerate() {
-        match spot.take(alloc, a, token.token)? {
-            Some(next) => spot = next,
-            None => return Ok(LineReading::Syntax(k)),
+        if !spot.take(alloc, a, token.token)? {
+            return Ok(LineReading::Syntax(k));
         }
     }
-    match spot.finish()? {
+    match spot.finish(alloc)? {
         Some(read) => Ok(LineReading::Whole(read)),
         None => Ok(LineReading::Syntax(tokens.len())),
     }

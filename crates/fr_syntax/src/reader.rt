@@ -1,24 +1,28 @@
 //! An expression, token by token.
 
-ghost use Rattle.std.specs.Prelude.{◌≡◌, [], ◌∷◌, ◌++◌, ◌||◌, IfOk};
+ghost use Rattle.std.specs.Prelude.{◌≡◌, [], ◌∷◌, ◌++◌, ◌||◌, IfOk, true, false};
 ghost use Rattle.fr_syntax.specs.Tokens.{seen};
 ghost use Rattle.fr_syntax.specs.Values as values;
 ghost use Rattle.fr_syntax.specs.Steps as spec;
 
+use crate::lists::push;
 use crate::name::Name;
 use crate::notes::Notes;
 use crate::numbers::{empty_word, exponent, is_one_text, passes, word};
 use crate::token::{Mark, Token};
 use crate::tree::{Atom, Expr, Factor, Op};
-use crate::unfinished::{Frame, Hole, Open, Place, fill, plain, product, with_op};
+use crate::unfinished::{Frame, Open, Place, add_op, close, plain, product};
 use fr_alphabet::{Alphabet, NoMemory};
 use sqlite_items::{Boxed, Items};
 use std::alloc::Global;
+use std::mem::replace;
 
 /// What was read of an expression: the open brackets, the innermost last, and the rest.
 #[derive(Drop)]
 pub struct Reader {
     pub frames: Items<Frame>,
+    /// The factors of the innermost expression.
+    pub factors: Items<Factor>,
     pub place: Place,
     pub notes: Notes,
 }
@@ -34,34 +38,11 @@ pub struct ReadExpr {
 #[derive(Drop)]
 pub enum Step {
     /// It belongs to it.
-    Next(Reader),
+    Next,
     /// It stands after it.
-    Ends(Expr, Notes),
+    Ends(Expr),
     /// It can stand neither in nor after it.
     Stuck,
-}
-
-fn next(frames: Items<Frame>, place: Place, notes: Notes) -> Step
-    ensures { result ≡ spec.next frames place notes }
-{
-    Step::Next(Reader {
-        frames,
-        place,
-        notes,
-    })
-}
-
-fn opened(
-    alloc: Global,
-    mut frames: Items<Frame>,
-    open: Open,
-    hole: Hole,
-    notes: Notes,
-) -> Result<Step, NoMemory>
-    ensures { IfOk result (λ s. s ≡ spec.opened frames «open» hole notes) }
-{
-    frames.push(Frame { open, hole })?;
-    Ok(next(frames, Place::Atom(Hole::Start(Items::new(alloc))), notes))
 }
 
 /// Notes whether the value of an exponent's digits is above the limit.
@@ -75,120 +56,6 @@ pub fn note_power(notes: Notes, digits: &[u8]) -> Notes
     }
 }
 
-fn with_power(factor: Factor, negative: bool, digits: &[u8]) -> Result<Factor, NoMemory>
-    ensures { IfOk result (λ f. f ≡ values.with_op factor (Op.Power negative (values.capped_value digits.now))) }
-{
-    with_op(
-        factor,
-        Op::Power {
-            negative,
-            k: exponent(digits),
-        },
-    )
-}
-
-fn number_step(
-    alloc: Global,
-    frames: Items<Frame>,
-    hole: Hole,
-    notes: Notes,
-    digits: &[u8],
-) -> Result<Step, NoMemory>
-    ensures { IfOk result (λ s. s ≡ spec.number_step frames hole notes digits.now) }
-{
-    match hole {
-        Hole::Start(factors) => {
-            if is_one_text(digits) {
-                let factor = plain(alloc, Atom::One);
-                Ok(next(frames, Place::After(factors, factor), notes))
-            } else {
-                Ok(Step::Stuck)
-            }
-        }
-        Hole::Conj(factors, factor) => {
-            let factor = with_power(factor, false, digits)?;
-            let notes = note_power(notes, digits);
-            Ok(next(frames, Place::After(factors, factor), notes))
-        }
-    }
-}
-
-fn minus_step(frames: Items<Frame>, hole: Hole, notes: Notes) -> Step
-    ensures { result ≡ spec.minus_step frames hole notes }
-{
-    match hole {
-        Hole::Start(_) => Step::Stuck,
-        Hole::Conj(factors, factor) => next(frames, Place::Negative(factors, factor), notes),
-    }
-}
-
-fn atom_step(
-    alloc: Global,
-    frames: Items<Frame>,
-    hole: Hole,
-    notes: Notes,
-    token: Token<'_>,
-) -> Result<Step, NoMemory>
-    ensures { IfOk result (λ s. s ≡ spec.atom_step frames hole notes (seen token.entry)) }
-{
-    match token {
-        Token::Name(name) => {
-            let atom = Atom::Named(Name::from_bytes(alloc, name)?);
-            Ok(next(frames, fill(alloc, hole, atom)?, notes))
-        }
-        Token::Number(digits) => number_step(alloc, frames, hole, notes, digits),
-        Token::Mark(Mark::LeftParen) => opened(alloc, frames, Open::Paren, hole, notes),
-        Token::Mark(Mark::LeftBracket) => opened(alloc, frames, Open::First, hole, notes),
-        Token::Mark(Mark::Minus) => Ok(minus_step(frames, hole, notes)),
-        _ => Ok(Step::Stuck),
-    }
-}
-
-fn negative_step(
-    frames: Items<Frame>,
-    factors: Items<Factor>,
-    factor: Factor,
-    notes: Notes,
-    token: Token<'_>,
-) -> Result<Step, NoMemory>
-    ensures { IfOk result (λ s. s ≡ spec.negative_step frames factors factor notes (seen token.entry)) }
-{
-    match token {
-        Token::Number(digits) => {
-            let factor = with_power(factor, true, digits)?;
-            let notes = note_power(notes, digits);
-            Ok(next(frames, Place::After(factors, factor), notes))
-        }
-        _ => Ok(Step::Stuck),
-    }
-}
-
-fn word_step(
-    alloc: Global,
-    a: Alphabet,
-    frames: Items<Frame>,
-    factors: Items<Factor>,
-    factor: Factor,
-    notes: Notes,
-    token: Token<'_>,
-) -> Result<Step, NoMemory>
-    ensures { IfOk result (λ s. s ≡ spec.word_step a frames factors factor notes (seen token.entry)) }
-{
-    match token {
-        Token::Number(digits) => {
-            let read = word(alloc, a, digits)?;
-            let notes = note_digits(notes, read.refused);
-            let factor = with_op(factor, Op::At(read.word))?;
-            Ok(next(frames, Place::After(factors, factor), notes))
-        }
-        Token::Mark(Mark::Minus) => {
-            let factor = with_op(factor, Op::At(empty_word(alloc)))?;
-            Ok(next(frames, Place::After(factors, factor), notes))
-        }
-        _ => Ok(Step::Stuck),
-    }
-}
-
 /// Notes whether a word was refused.
 pub fn note_digits(notes: Notes, refused: bool) -> Notes
     ensures { result ≡ record notes { not_a_letter = notes.not_a_letter || refused } }
@@ -199,76 +66,6 @@ pub fn note_digits(notes: Notes, refused: bool) -> Notes
     }
 }
 
-fn close_step(
-    alloc: Global,
-    frames: Items<Frame>,
-    frame: Frame,
-    expr: Expr,
-    notes: Notes,
-    token: Token<'_>,
-) -> Result<Step, NoMemory>
-    ensures { IfOk result (λ s. s ≡ spec.close_step frames frame.«open» frame.hole expr notes (seen token.entry)) }
-{
-    let Frame { open, hole } = frame;
-    match (open, token) {
-        (Open::Paren, Token::Mark(Mark::RightParen)) => {
-            let atom = Atom::Paren(Boxed::new(alloc, expr)?);
-            Ok(next(frames, fill(alloc, hole, atom)?, notes))
-        }
-        (Open::First, Token::Mark(Mark::Comma)) => {
-            opened(alloc, frames, Open::Second(expr), hole, notes)
-        }
-        (Open::Second(left), Token::Mark(Mark::RightBracket)) => {
-            let atom = Atom::Comm(Boxed::new(alloc, left)?, Boxed::new(alloc, expr)?);
-            Ok(next(frames, fill(alloc, hole, atom)?, notes))
-        }
-        _ => Ok(Step::Stuck),
-    }
-}
-
-fn end_step(
-    alloc: Global,
-    mut frames: Items<Frame>,
-    expr: Expr,
-    notes: Notes,
-    token: Token<'_>,
-) -> Result<Step, NoMemory>
-    ensures { IfOk result (λ s. s ≡ spec.end_step [] frames expr notes (seen token.entry)) }
-{
-    match frames.pop() {
-        Some(frame) => close_step(alloc, frames, frame, expr, notes, token),
-        None => Ok(Step::Ends(expr, notes)),
-    }
-}
-
-fn after_step(
-    alloc: Global,
-    frames: Items<Frame>,
-    mut factors: Items<Factor>,
-    factor: Factor,
-    notes: Notes,
-    token: Token<'_>,
-) -> Result<Step, NoMemory>
-    ensures { IfOk result (λ s. s ≡ spec.after_step frames factors factor notes (seen token.entry)) }
-{
-    match token {
-        Token::Mark(Mark::Star) => {
-            factors.push(factor)?;
-            Ok(next(frames, Place::Atom(Hole::Start(factors)), notes))
-        }
-        Token::Mark(Mark::Caret) => Ok(next(
-            frames,
-            Place::Atom(Hole::Conj(factors, factor)),
-            notes,
-        )),
-        Token::Mark(Mark::At) => Ok(next(frames, Place::Word(factors, factor), notes)),
-        _ => {
-            let expr = product(alloc, factors, factor)?;
-            end_step(alloc, frames, expr, notes, token)
-        }
-    }
-}
-
 impl Reader {
     /// Before the first token of an expression.
     pub fn new(alloc: Global, notes: Notes) -> Reader
@@ -276,53 +73,222 @@ impl Reader {
     {
         Reader {
             frames: Items::new(alloc),
-            place: Place::Atom(Hole::Start(Items::new(alloc))),
+            factors: Items::new(alloc),
+            place: Place::Atom,
             notes,
         }
     }
 
+    /// Takes a token. After `Ends` and `Stuck` the reader is done, and only its notes tell something.
+    pub fn step(&mut self, alloc: Global, a: Alphabet, token: Token<'_>) -> Result<Step, NoMemory>
+        ensures { IfOk result (λ s. spec.stepped s self.new ≡ spec.step a self.old (seen token.entry)) }
+    {
+        match self.place {
+            Place::Atom | Place::Power => self.atom_step(alloc, token),
+            Place::Negative => self.negative_step(alloc, token),
+            Place::Word => self.word_step(alloc, a, token),
+            Place::After => self.after_step(alloc, token),
+        }
+    }
+
     /// The expression, where it is whole.
-    pub fn finish(self) -> Result<Option<ReadExpr>, NoMemory>
+    pub fn finish(self, alloc: Global) -> Result<Option<ReadExpr>, NoMemory>
         ensures { IfOk result (λ r. r ≡ spec.finish self) }
     {
         let Reader {
             frames,
+            factors,
             place,
             notes,
         } = self;
-        if !frames.is_empty() {
-            return Ok(None);
-        }
         match place {
-            Place::After(mut factors, factor) => {
-                factors.push(factor)?;
-                let expr = Expr { factors };
+            Place::After if frames.is_empty() => {
+                let expr = product(alloc, factors)?;
                 Ok(Some(ReadExpr { expr, notes }))
             }
             _ => Ok(None),
         }
     }
 
-    /// Takes a token.
-    pub fn step(self, alloc: Global, a: Alphabet, token: Token<'_>) -> Result<Step, NoMemory>
-        ensures { IfOk result (λ s. s ≡ spec.step a self (seen token.entry)) }
+    fn go(&mut self, place: Place) -> Step
+        ensures { spec.stepped result self.new ≡ spec.next self.old.frames self.old.factors place self.old.notes }
     {
-        let Reader {
-            frames,
-            place,
-            notes,
-        } = self;
+        self.place = place;
+        Step::Next
+    }
+
+    // A factor without operations comes next.
+    fn add_atom(&mut self, alloc: Global, atom: Atom) -> Result<Step, NoMemory>
+        ensures { IfOk result (λ s. spec.stepped s self.new ≡ spec.next self.old.frames (self.old.factors ++ values.plain atom ∷ []) Place.After self.old.notes) }
+    {
+        push(alloc, &mut self.factors, plain(alloc, atom))?;
+        Ok(self.go(Place::After))
+    }
+
+    // An operation on the last factor comes next.
+    fn add_op(&mut self, alloc: Global, op: Op) -> Result<Step, NoMemory>
+        ensures { IfOk result (λ s. spec.stepped s self.new ≡ spec.next self.old.frames (spec.add_op self.old.factors op) Place.After self.old.notes) }
+    {
+        add_op(alloc, &mut self.factors, op)?;
+        Ok(self.go(Place::After))
+    }
+
+    fn fill(&mut self, alloc: Global, place: Place, atom: Atom) -> Result<Step, NoMemory>
+        ensures { IfOk result (λ s. spec.stepped s self.new ≡ spec.next self.old.frames (spec.fill self.old.factors place atom) Place.After self.old.notes) }
+    {
         match place {
-            Place::Atom(hole) => atom_step(alloc, frames, hole, notes, token),
-            Place::Negative(factors, factor) => {
-                negative_step(frames, factors, factor, notes, token)
+            Place::Power => self.add_op(alloc, Op::Conj(atom)),
+            _ => self.add_atom(alloc, atom),
+        }
+    }
+
+    fn power(&mut self, alloc: Global, negative: bool, digits: &[u8]) -> Result<Step, NoMemory>
+        ensures { IfOk result (λ s. spec.stepped s self.new
+            ≡ spec.next self.old.frames (spec.add_op self.old.factors (Op.Power negative (values.capped_value digits.now))) Place.After (values.note_power digits.now self.old.notes)) }
+    {
+        self.notes = note_power(self.notes, digits);
+        let k = exponent(digits);
+        self.add_op(alloc, Op::Power { negative, k })
+    }
+
+    fn open(
+        &mut self,
+        alloc: Global,
+        open: Open,
+        factors: Items<Factor>,
+        place: Place,
+    ) -> Result<Step, NoMemory>
+        ensures { IfOk result (λ s. spec.stepped s self.new ≡ spec.opened self.old.frames «open» factors place self.old.notes) }
+    {
+        self.frames.push(Frame {
+            open,
+            factors,
+            place,
+        })?;
+        self.factors = Items::new(alloc);
+        Ok(self.go(Place::Atom))
+    }
+
+    fn open_here(&mut self, alloc: Global, open: Open) -> Result<Step, NoMemory>
+        ensures { IfOk result (λ s. spec.stepped s self.new ≡ spec.opened self.old.frames «open» self.old.factors self.old.place self.old.notes) }
+    {
+        let factors = replace(&mut self.factors, Items::new(alloc));
+        self.open(alloc, open, factors, self.place)
+    }
+
+    fn atom_step(&mut self, alloc: Global, token: Token<'_>) -> Result<Step, NoMemory>
+        ensures { IfOk result (λ s. spec.stepped s self.new ≡ spec.atom_step self.old.frames self.old.factors self.old.place self.old.notes (seen token.entry)) }
+    {
+        match token {
+            Token::Name(name) => {
+                let atom = Atom::Named(Name::from_bytes(alloc, name)?);
+                self.fill(alloc, self.place, atom)
             }
-            Place::Word(factors, factor) => {
-                word_step(alloc, a, frames, factors, factor, notes, token)
+            Token::Number(digits) => self.number_step(alloc, digits),
+            Token::Mark(Mark::LeftParen) => self.open_here(alloc, Open::Paren),
+            Token::Mark(Mark::LeftBracket) => self.open_here(alloc, Open::First),
+            Token::Mark(Mark::Minus) => Ok(self.minus_step()),
+            _ => Ok(Step::Stuck),
+        }
+    }
+
+    fn number_step(&mut self, alloc: Global, digits: &[u8]) -> Result<Step, NoMemory>
+        ensures { IfOk result (λ s. spec.stepped s self.new ≡ spec.number_step self.old.frames self.old.factors self.old.place self.old.notes digits.now) }
+    {
+        match self.place {
+            Place::Power => self.power(alloc, false, digits),
+            _ if is_one_text(digits) => self.add_atom(alloc, Atom::One),
+            _ => Ok(Step::Stuck),
+        }
+    }
+
+    fn minus_step(&mut self) -> Step
+        ensures { spec.stepped result self.new ≡ spec.minus_step self.old.frames self.old.factors self.old.place self.old.notes }
+    {
+        match self.place {
+            Place::Power => self.go(Place::Negative),
+            _ => Step::Stuck,
+        }
+    }
+
+    fn negative_step(&mut self, alloc: Global, token: Token<'_>) -> Result<Step, NoMemory>
+        ensures { IfOk result (λ s. spec.stepped s self.new ≡ spec.negative_step self.old.frames self.old.factors self.old.notes (seen token.entry)) }
+    {
+        match token {
+            Token::Number(digits) => self.power(alloc, true, digits),
+            _ => Ok(Step::Stuck),
+        }
+    }
+
+    fn word_step(&mut self, alloc: Global, a: Alphabet, token: Token<'_>) -> Result<Step, NoMemory>
+        ensures { IfOk result (λ s. spec.stepped s self.new ≡ spec.word_step a self.old.frames self.old.factors self.old.notes (seen token.entry)) }
+    {
+        match token {
+            Token::Number(digits) => {
+                let read = word(alloc, a, digits)?;
+                self.notes = note_digits(self.notes, read.refused);
+                self.add_op(alloc, Op::At(read.word))
             }
-            Place::After(factors, factor) => {
-                after_step(alloc, frames, factors, factor, notes, token)
+            Token::Mark(Mark::Minus) => self.add_op(alloc, Op::At(empty_word(alloc))),
+            _ => Ok(Step::Stuck),
+        }
+    }
+
+    fn after_step(&mut self, alloc: Global, token: Token<'_>) -> Result<Step, NoMemory>
+        ensures { IfOk result (λ s. spec.stepped s self.new ≡ spec.after_step self.old.frames self.old.factors self.old.notes (seen token.entry)) }
+    {
+        match token {
+            Token::Mark(Mark::Star) => {
+                close(alloc, &mut self.factors)?;
+                Ok(self.go(Place::Atom))
             }
+            Token::Mark(Mark::Caret) => Ok(self.go(Place::Power)),
+            Token::Mark(Mark::At) => Ok(self.go(Place::Word)),
+            _ => {
+                let factors = replace(&mut self.factors, Items::new(alloc));
+                let expr = product(alloc, factors)?;
+                self.end_step(alloc, expr, token)
+            }
+        }
+    }
+
+    fn end_step(&mut self, alloc: Global, expr: Expr, token: Token<'_>) -> Result<Step, NoMemory>
+        ensures { IfOk result (λ s. spec.stepped s self.new ≡ spec.end_step [] self.old.frames expr self.old.notes (seen token.entry)) }
+    {
+        match self.frames.pop() {
+            Some(frame) => self.close_step(alloc, frame, expr, token),
+            None => Ok(Step::Ends(expr)),
+        }
+    }
+
+    fn close_step(
+        &mut self,
+        alloc: Global,
+        frame: Frame,
+        expr: Expr,
+        token: Token<'_>,
+    ) -> Result<Step, NoMemory>
+        ensures { IfOk result (λ s. spec.stepped s self.new ≡ spec.close_step self.old.frames frame.«open» frame.factors frame.place expr self.old.notes (seen token.entry)) }
+    {
+        let Frame {
+            open,
+            factors,
+            place,
+        } = frame;
+        match (open, token) {
+            (Open::Paren, Token::Mark(Mark::RightParen)) => {
+                self.factors = factors;
+                self.fill(alloc, place, Atom::Paren(expr))
+            }
+            (Open::First, Token::Mark(Mark::Comma)) => {
+                self.open(alloc, Open::Second(expr), factors, place)
+            }
+            (Open::Second(left), Token::Mark(Mark::RightBracket)) => {
+                self.factors = factors;
+                let atom = Atom::Comm(Boxed::new(alloc, left)?, Boxed::new(alloc, expr)?);
+                self.fill(alloc, place, atom)
+            }
+            _ => Ok(Step::Stuck),
         }
     }
 }

@@ -28,7 +28,7 @@ pub enum Atom {
     /// A name.
     Named(Name),
     /// An expression in brackets.
-    Paren(Boxed<Expr>),
+    Paren(Expr),
     /// The commutator of two elements.
     Comm(Boxed<Expr>, Boxed<Expr>),
 }

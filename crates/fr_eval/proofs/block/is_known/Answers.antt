@@ -1,6 +1,6 @@
 use Rattle.std.proofs.Common.{◌∙◌, sym, ap}
 use Rattle.std.specs.Prelude.{is_some}
-use Rattle.fr_eval.specs.Blocks.{names_of}
+use Rattle.fr_plain.specs.Blocks.{names_of}
 use Rattle.fr_eval.proofs.NameLaws.{list_any-place}
 use Rattle.fr_eval.proofs.block.is_known.Goals as goal
 

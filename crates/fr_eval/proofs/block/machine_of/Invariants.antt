@@ -1,5 +1,5 @@
 use Rattle.std.proofs.Common.{◌≡◌, map, take}
-use Rattle.fr_eval.specs.Blocks.{names_of}
+use Rattle.fr_plain.specs.Blocks.{names_of}
 use Rattle.fr_eval.specs.BlockRows.{row_from}
 use Rattle.fr_eval.proofs.block.machine_of.Given as goal
 

@@ -1,6 +1,6 @@
 use Rattle.std.proofs.Common.{◌≡◌, map}
 use Rattle.fr_alphabet.proofs.Images.{written}
-use Rattle.fr_eval.specs.Blocks.{names_of}
+use Rattle.fr_plain.specs.Blocks.{names_of}
 use Rattle.fr_eval.specs.BlockRows.{next_of}
 use Rattle.fr_eval.proofs.block.row_of.Given as goal
 

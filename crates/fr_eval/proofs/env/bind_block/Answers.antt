@@ -1,5 +1,5 @@
 use Rattle.std.proofs.Common.{◌≡◌, ◌∙◌, get_or, sym, refl}
-use Rattle.fr_eval.specs.Blocks.{block_system}
+use Rattle.fr_plain.specs.Blocks.{block_system}
 use Rattle.fr_eval.proofs.ScopeLaws.{HoldsScope-more}
 use Rattle.fr_eval.proofs.env.bind_block.Goals as goal
 

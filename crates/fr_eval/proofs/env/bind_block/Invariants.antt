@@ -1,8 +1,8 @@
 use Rattle.std.proofs.Common.{ℕ, List, ◌<◌, length, take}
 use Rattle.fr_model.specs.Terms.{Name}
 use Rattle.fr_machine.specs.Machine.{MachineView}
-use Rattle.fr_eval.specs.Blocks.{names_of, block_system}
-use Rattle.fr_eval.specs.Scopes.{Scope, bind_names}
+use Rattle.fr_plain.specs.Blocks.{names_of, block_system}
+use Rattle.fr_plain.specs.Scopes.{Scope, bind_names}
 use Rattle.fr_eval.specs.Places.{IsPlaceOf, HoldsScope}
 use Rattle.fr_eval.proofs.env.bind_block.Given as goal
 

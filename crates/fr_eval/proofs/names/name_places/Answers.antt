@@ -1,7 +1,7 @@
 use Rattle.std.proofs.Common.{◌≡◌, ℕ, List, true, false, take, get_or, ◌∙◌, sym, ap, Some}
 use Rattle.std.specs.Prelude.{is_some}
 use Rattle.fr_syntax.specs.declared.statement.Recursion.{Recursion}
-use Rattle.fr_eval.specs.Blocks.{names_of, place_of}
+use Rattle.fr_plain.specs.Blocks.{names_of, place_of}
 use Rattle.fr_eval.specs.Tables.{value_at}
 use Rattle.fr_eval.proofs.NameLaws.{first_repeat-goes, first_repeat-stops, place_of-more}
 use Rattle.fr_eval.proofs.names.name_places.Goals as goal

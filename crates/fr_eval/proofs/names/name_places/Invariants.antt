@@ -1,6 +1,6 @@
 use Rattle.std.proofs.Common.{◌≡◌, ℕ, List, [], take, drop}
-use Rattle.fr_eval.specs.Blocks.{names_of, place_of}
-use Rattle.fr_eval.specs.BlockNames.{first_repeat}
+use Rattle.fr_plain.specs.Blocks.{names_of, place_of}
+use Rattle.fr_plain.specs.BlockNames.{first_repeat}
 use Rattle.fr_eval.specs.Tables.{value_at}
 use Rattle.fr_eval.proofs.names.name_places.Given as goal
 

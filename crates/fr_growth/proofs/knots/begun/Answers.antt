@@ -1,6 +1,7 @@
 use Rattle.std.proofs.Common.{arith, [], length}
 use Rattle.fr_growth.proofs.BitLaws.{zero_words, has_bit-zeros, has_bit-one, rank_more}
-use Rattle.fr_growth.proofs.KnotLaws.{path_none, path_more, numbered_none}
+use Rattle.fr_growth.proofs.PathLaws.{path_more}
+use Rattle.fr_growth.proofs.KnotLaws.{path_none, numbered_none}
 use Rattle.fr_growth.proofs.knots.begun.Goals as goal
 
 pub returns : goal.returns

@@ -1,6 +1,7 @@
 use Rattle.std.proofs.Common.{arith, ◌≡◌, ◌++◌, [], ◌∷◌, length, ap}
 use Rattle.std.proofs.lemmas.List.{length_push}
-use Rattle.fr_growth.proofs.KnotLaws.{step_back, last_is, path_joined}
+use Rattle.fr_growth.proofs.PathLaws.{last_is, path_joined}
+use Rattle.fr_growth.proofs.KnotLaws.{step_back}
 use Rattle.fr_growth.proofs.knots.draw_together.Goals as goal
 
 pub unwrap-before-requires : goal.unwrap-before-requires

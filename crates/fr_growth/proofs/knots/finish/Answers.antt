@@ -2,7 +2,8 @@ use Rattle.std.proofs.Common.{arith, ◌≡◌, ◌++◌, [], ◌∷◌, length,
 use Rattle.std.proofs.lemmas.List.{length_push}
 use Rattle.fr_growth.specs.declared.knots.Knot.{Knot}
 use Rattle.fr_growth.proofs.BitLaws.{rank-le}
-use Rattle.fr_growth.proofs.KnotLaws.{last_is, last_rows, path_done, numbered_more}
+use Rattle.fr_growth.proofs.PathLaws.{last_is}
+use Rattle.fr_growth.proofs.KnotLaws.{last_rows, path_done, numbered_more}
 use Rattle.fr_growth.proofs.knots.finish.Goals as goal
 
 pub number-requires-clause-rows : goal.number-requires-clause-rows

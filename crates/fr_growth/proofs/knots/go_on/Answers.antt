@@ -2,7 +2,8 @@ use Rattle.std.proofs.Common.{arith, length, ◌∙◌}
 use Rattle.fr_growth.specs.Bits.{has_bit}
 use Rattle.fr_growth.proofs.BitLaws.{rank_more, rank-le}
 use Rattle.fr_growth.proofs.RowLaws.{or_left}
-use Rattle.fr_growth.proofs.KnotLaws.{path_more, step_on}
+use Rattle.fr_growth.proofs.PathLaws.{path_more}
+use Rattle.fr_growth.proofs.KnotLaws.{step_on}
 use Rattle.fr_growth.proofs.knots.go_on.Goals as goal
 
 pub knot_of-requires : goal.knot_of-requires

@@ -14,7 +14,7 @@ returns-in_ok-checked-in-Whole c =
 
 pub returns-in-Syntax : goal.returns-in-Syntax
 returns-in-Syntax c =
-    rw (c.place_of.ensures) (parsed c.args.a c.args.n c.args.tokens.now (r.Syntax c.in-Syntax.k)
+    rw (c.syntax_fault.ensures) (parsed c.args.a c.args.n c.args.tokens.now (r.Syntax c.in-Syntax.k)
     (sym c.passes_nesting.ensures ∙ c.if-passes_nesting.false) (rw c.in-Syntax.is at c.in_ok-line.ensures))
 
 pub checked-requires : goal.checked-requires

@@ -20,6 +20,6 @@ returns-in-Whole c =
 
 pub returns-in-Syntax : goal.returns-in-Syntax
 returns-in-Syntax c =
-    rw (c.place_of.ensures) (parsed c.args.a c.args.is_first c.args.tokens.now (r.Syntax c.in-Syntax.k)
+    rw (c.syntax_fault.ensures) (parsed c.args.a c.args.is_first c.args.tokens.now (r.Syntax c.in-Syntax.k)
     (sym c.begins_statement.ensures ∙ c.if-not-begins_statement.false) (sym c.passes_nesting.ensures ∙ c.if-passes_nesting.false)
     (rw c.in-Syntax.is at c.in_ok-read.ensures))

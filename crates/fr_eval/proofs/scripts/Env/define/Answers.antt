@@ -1,7 +1,7 @@
 use Rattle.std.proofs.Common.{◌≡◌, sym, refl, rules, length, None, ◌++◌, ◌∷◌, [], arith}
 use Rattle.std.proofs.lemmas.List.{append-nil}
 use Rattle.fr_model.specs.Terms.{Name}
-use Rattle.fr_eval.specs.Blocks.{block_system}
+use Rattle.fr_plain.specs.Blocks.{block_system}
 use Rattle.fr_eval.specs.BlockFaults.{block_fault}
 use Rattle.fr_eval.proofs.BuiltLaws.{built_block}
 use Rattle.fr_eval.proofs.ScopeLaws.{HoldsScope-push, IsPlaceOf-last}

@@ -1,0 +1,6 @@
+pub mod StepLaws
+pub mod EndingLaws
+pub mod MemberLaws
+pub mod OutcomeLaws
+pub mod BeginningLaws
+pub mod PlainLaws

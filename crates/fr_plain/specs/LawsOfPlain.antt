@@ -1,0 +1,21 @@
+-- The laws of the plain evaluation: what a script writes and what it is charged is determined.
+use Rattle.std.specs.Prelude.{ℕ, ◌≡◌, ◌<◌, Bool, List}
+use Rattle.fr_script.specs.declared.item.Item.{Item}
+use Rattle.fr_plain.specs.Scopes.{Scope}
+use Rattle.fr_plain.specs.Outcomes.{Outcome, IsOutcome}
+use Rattle.fr_plain.specs.Plain.{IsPlain}
+use Rattle.fr_plain.specs.Beginnings.{PassesCharge}
+
+-- an item has one outcome, up to the terms of the members of a nucleus
+pub record OutcomesAreDetermined : Type 0 where
+  pub one_text : (d : ℕ) (scope : Scope) (item : Item) (o p : Outcome) → IsOutcome d scope item o → IsOutcome d scope item p → o.text ≡ p.text
+  pub one_charge : (d : ℕ) (scope : Scope) (item : Item) (o p : Outcome) → IsOutcome d scope item o → IsOutcome d scope item p → o.charge ≡ p.charge
+  pub one_end : (d : ℕ) (scope : Scope) (item : Item) (o p : Outcome) → IsOutcome d scope item o → IsOutcome d scope item p → o.refused ≡ p.refused
+  pub one_scope : (d : ℕ) (scope : Scope) (item : Item) (o p : Outcome) → IsOutcome d scope item o → IsOutcome d scope item p → o.scope ≡ p.scope
+
+-- bytes write one text, with one charge; where some first steps are charged more than a limit, so is the whole
+pub record PlainIsDetermined : Type 0 where
+  pub one_text : (bytes text other : List ℕ) (refused faulty : Bool) (m n : ℕ) → IsPlain bytes text refused m → IsPlain bytes other faulty n → text ≡ other
+  pub one_end : (bytes text other : List ℕ) (refused faulty : Bool) (m n : ℕ) → IsPlain bytes text refused m → IsPlain bytes other faulty n → refused ≡ faulty
+  pub one_charge : (bytes text other : List ℕ) (refused faulty : Bool) (m n : ℕ) → IsPlain bytes text refused m → IsPlain bytes other faulty n → m ≡ n
+  pub passes : (bytes text : List ℕ) (refused : Bool) (n limit : ℕ) → PassesCharge bytes limit → IsPlain bytes text refused n → limit < n

@@ -1,0 +1,10 @@
+pub mod Scopes
+pub mod Blocks
+pub mod BlockNames
+pub mod Steps
+pub mod Expansions
+pub mod Answers
+pub mod Outcomes
+pub mod Plain
+pub mod Beginnings
+pub mod LawsOfPlain

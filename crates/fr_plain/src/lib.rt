@@ -1,0 +1,6 @@
+//! The plain evaluation of scripts: definitions, and the laws that they determine what is written.
+#![tactic(auto)]
+
+mod laws;
+
+pub use laws::{outcomes_are_determined, plain_is_determined};
