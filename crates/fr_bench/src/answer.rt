@@ -32,6 +32,8 @@ pub enum Answer {
     Polynomial(u16),
     /// The activity is exponential; the letters on the way to a section, and on each of two ways back to it.
     Exponential(usize, usize),
+    /// The handles of a store.
+    Handles(u64),
 }
 
 impl fmt::Display for Answer {
@@ -49,6 +51,7 @@ impl fmt::Display for Answer {
             Answer::Finitary(depth) => write!(f, "finitary {depth}"),
             Answer::Polynomial(degree) => write!(f, "polynomial {degree}"),
             Answer::Exponential(at, back) => write!(f, "exponential at {at} letters by {back}"),
+            Answer::Handles(count) => write!(f, "{count} handles"),
         }
     }
 }

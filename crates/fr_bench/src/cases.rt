@@ -10,7 +10,8 @@ use crate::partitions::{chain, count_classes, drawn, halves, reversed};
 use crate::products::multiply;
 use crate::rays::find_image;
 use crate::separations::tell_apart;
-use fr_machine::Machine;
+use crate::stores::{drawn_elements, find, growing_elements, intern_all};
+use fr_machine::{Machine, Minimal};
 use std::alloc::Global;
 use std::str::SplitWhitespace;
 
@@ -26,6 +27,10 @@ use std::str::SplitWhitespace;
 /// - `ray P N`: the image of the ray that repeats N letters, at most 4,096, under a cycle of P states, at most 1,024.
 /// - `growth ends N`, `growth loops N`, `growth loop-first N`, `growth loop-last N`, `growth back N`, `growth cycle N`,
 ///   `growth scattered N`: the class of growth of an element of N states, 2 to 1,024, over 8 letters.
+/// - `intern N`: N drawn elements of at most 2 to 10 states, in an empty store for one thread.
+/// - `grow N`: elements of 1 to N states, at most 1,024, each with the one before it as its section, in such a store.
+/// - `enter D N`: an element of N states, at most 1,024, over D letters, 2 to 8, in an empty store for one thread.
+/// - `find D N`: the same element in a store that knows it from the first call on.
 ///
 /// `Usage` is the answer to any other words.
 pub fn measure(alloc: Global, case: &str) -> Result<Answer, Stop> {
@@ -47,6 +52,14 @@ pub fn measure(alloc: Global, case: &str) -> Result<Answer, Stop> {
         measure_ray(alloc, parts)
     } else if name == "growth" {
         measure_growth(alloc, parts)
+    } else if name == "intern" {
+        measure_intern(alloc, parts)
+    } else if name == "grow" {
+        measure_grow(alloc, parts)
+    } else if name == "enter" {
+        measure_enter(alloc, parts)
+    } else if name == "find" {
+        measure_find(alloc, parts)
     } else {
         Err(Stop::Usage)
     }
@@ -93,9 +106,7 @@ fn measure_grid(alloc: Global, mut parts: SplitWhitespace<'_>) -> Result<Answer,
 }
 
 fn measure_canon(alloc: Global, mut parts: SplitWhitespace<'_>) -> Result<Answer, Stop> {
-    let letters = number(&mut parts)?;
-    let count = number(&mut parts)?;
-    let element = scattered(alloc, letters.min(9) as u8, count)?;
+    let element = numbered(alloc, &mut parts)?;
     list(alloc, &element, times(&mut parts)?)
 }
 
@@ -149,6 +160,33 @@ fn growth_kind(name: &str) -> Result<Kind, Stop> {
     } else {
         Err(Stop::Usage)
     }
+}
+
+fn measure_intern(alloc: Global, mut parts: SplitWhitespace<'_>) -> Result<Answer, Stop> {
+    let elements = drawn_elements(alloc, number(&mut parts)?)?;
+    intern_all(alloc, &elements, 1048576, times(&mut parts)?)
+}
+
+fn measure_grow(alloc: Global, mut parts: SplitWhitespace<'_>) -> Result<Answer, Stop> {
+    let elements = growing_elements(alloc, number(&mut parts)?)?;
+    intern_all(alloc, &elements, 1048576, times(&mut parts)?)
+}
+
+fn measure_enter(alloc: Global, mut parts: SplitWhitespace<'_>) -> Result<Answer, Stop> {
+    let element = numbered(alloc, &mut parts)?;
+    intern_all(alloc, &[element], 1024, times(&mut parts)?)
+}
+
+fn measure_find(alloc: Global, mut parts: SplitWhitespace<'_>) -> Result<Answer, Stop> {
+    let element = numbered(alloc, &mut parts)?;
+    find(alloc, &element, times(&mut parts)?)
+}
+
+// An element over so many letters and of so many states.
+fn numbered(alloc: Global, parts: &mut SplitWhitespace<'_>) -> Result<Minimal, Stop> {
+    let letters = number(parts)?;
+    let count = number(parts)?;
+    scattered(alloc, letters.min(9) as u8, count)
 }
 
 // The next part as a number.

@@ -13,6 +13,7 @@ mod partitions;
 mod products;
 mod rays;
 mod separations;
+mod stores;
 
 use cases::measure;
 use std::{env, io};

@@ -61,8 +61,15 @@ pub fn halves(alloc: Global, count: u32) -> Result<Machine, Stop>
 pub fn drawn(alloc: Global, count: u32) -> Result<Machine, Stop>
     requires { count ≤ 65536 }
 {
+    drawn_from(alloc, 1, count)
+}
+
+/// Every second row swaps the letters, and the next rows are drawn from this seed on.
+pub fn drawn_from(alloc: Global, seed: u32, count: u32) -> Result<Machine, Stop>
+    requires { count ≤ 65536 }
+{
     let mut builder = Builder::new(alloc, 2)?;
-    let mut draws = Draws { state: 1 };
+    let mut draws = Draws { state: seed };
     for i in 0..count {
         let first = draws.below(count);
         let second = draws.below(count);

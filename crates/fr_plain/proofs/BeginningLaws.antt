@@ -1,5 +1,5 @@
 -- First steps are charged at most as much as the whole.
-use Rattle.std.proofs.Common.{ℕ, zero, suc, ◌≡◌, ◌<◌, ◌≤◌, ◌+◌, inl, inr, List, [], ◌∷◌, ◌++◌, Result, Ok, Err, Option, Some, None, length, refl, sym, ◌∙◌, ap, subst, arith}
+use Rattle.std.proofs.Common.{ℕ, zero, suc, ◌≡◌, ◌≤◌, ◌+◌, inl, inr, List, [], ◌∷◌, ◌++◌, Result, Ok, Err, Option, Some, None, length, refl, sym, ◌∙◌, ap, subst, arith}
 use Rattle.std.proofs.lemmas.Bool.{cases_order}
 use Rattle.fr_model.specs.Terms.{Term}
 use Rattle.fr_script.specs.declared.fault.LineFault.{LineFault}
@@ -12,9 +12,9 @@ use Rattle.fr_plain.specs.Scopes.{Scope}
 use Rattle.fr_plain.specs.Blocks.{block_system}
 use Rattle.fr_plain.specs.BlockNames.{names_fault}
 use Rattle.fr_plain.specs.Steps.{Step, Multiplied, IsCharged, IsRefused, AreEvaluated, AreStopped}
-use Rattle.fr_plain.specs.Expansions.{Expansion, expansion, expansions, steps_of_all, values_of_all}
+use Rattle.fr_plain.specs.Expansions.{Expansion, expansion, expansions, values_of_all}
 use Rattle.fr_plain.specs.Answers.{Ending, power, power_steps, IsOrdered, IsContracted}
-use Rattle.fr_plain.specs.Outcomes.{Outcome, reply, IsReply, stopped, ended, definitions, IsBlock, IsChecked, IsLet, IsStatement, IsOutcome}
+use Rattle.fr_plain.specs.Outcomes.{Outcome, reply, IsReply, stopped, ended, definitions, IsBlock, IsChecked, IsLet, IsStatement}
 use Rattle.fr_plain.specs.Plain.{AreOutcomes, charge_of}
 use Rattle.fr_plain.specs.Beginnings.{block_steps, statement_steps, AreFirstPowers, AreFirstMembers, AreFirst, within, beside, IsAsk, ReachesCharge}
 use Rattle.fr_plain.proofs.StepLaws.{evaluated_once, charge_once, charged_not_refused, evaluated_not_stopped, AreEvaluated-split}
@@ -41,8 +41,13 @@ first_in_stopped d n m f (s ∷ done) rest [] next more x y r e =
     absurd (charged_not_refused d s x.0 f x.2 (subst (λ (k : Step). IsRefused d k f) (sym (head_same s next (done ++ rest) more e)) r))
 first_in_stopped d n m f (s ∷ done) rest (t ∷ other) next more x y r e =
     let h : s ≡ t = head_same s t (done ++ rest) (other ++ next ∷ more) e in
-    omega (arith, x.4, y.4, charge_once d s x.0 y.0 x.2 (subst (λ (k : Step). IsCharged d k y.0) (sym h) y.2),
-    first_in_stopped d x.1 y.1 f done rest other next more x.3 y.3 r (tail_same s t (done ++ rest) (other ++ next ∷ more) e))
+    omega (
+      arith,
+      x.4,
+      y.4,
+      charge_once d s x.0 y.0 x.2 (subst (λ (k : Step). IsCharged d k y.0) (sym h) y.2),
+      first_in_stopped d x.1 y.1 f done rest other next more x.3 y.3 r (tail_same s t (done ++ rest) (other ++ next ∷ more) e),
+    )
 
 first_before_stop : (d : ℕ) (steps done rest other : List Step) (n m : ℕ) (f : LineFault) → steps ≡ done ++ rest → AreEvaluated d done n → AreStopped d steps other m f → n ≤ m
 first_before_stop d steps done rest other n m f e x s = first_in_stopped d n m f done rest other s.next s.rest x s.evaluated s.refused (sym e ∙ s.all)
@@ -92,9 +97,9 @@ powers_le d t k zero m n h x y =
 powers_le d t k (suc l) m n h x y = elim (cases_order k (suc l)) [
   | inl e ↦ omega (arith, evaluated_once d (power_steps t k) m n x (subst (λ (j : ℕ). AreEvaluated d (power_steps t j) n) (sym e) y))
   | inr o ↦
-    let s = AreEvaluated-split d (power_steps t l) (Multiplied (power t l) t ∷ []) n y in
-    let r = powers_le d t k l m s.0 (elim o [ inl b ↦ omega (arith, b) | inr b ↦ omega (arith, b, h) ]) x s.2 in
-    omega (arith, r, s.4)
+      let s = AreEvaluated-split d (power_steps t l) (Multiplied (power t l) t ∷ []) n y in
+      let r = powers_le d t k l m s.0 (elim o [ inl b ↦ omega (arith, b) | inr b ↦ omega (arith, b, h) ]) x s.2 in
+      omega (arith, r, s.4)
 ]
 
 powers_covered : (d : ℕ) (t : Term) (most : ℕ) (more : List Step) → AreFirstPowers d t most more → Covers d (IsOrdered d t most) more
@@ -119,8 +124,11 @@ contracted_evaluated d gens _ (IsContracted.passed few more) = refl
 
 members_covered : (d : ℕ) (gens : List Term) (more : List Step) → AreFirstMembers d gens more → Covers d (IsContracted d gens) more
 members_covered d gens more p e b w x =
-    omega (arith, first_in_evaluated d p.ending.steps more p.rest b p.ending.charge p.begins x (contracted_evaluated d gens p.ending p.contracts),
-    (contracted_once d gens p.ending e p.contracts w).0)
+    omega (
+      arith,
+      first_in_evaluated d p.ending.steps more p.rest b p.ending.charge p.begins x (contracted_evaluated d gens p.ending p.contracts),
+      (contracted_once d gens p.ending e p.contracts w).0,
+    )
 
 -- ---- definitions
 block_within : (d : ℕ) (scope : Scope) (recursions : List Recursion) (o : Outcome) (done rest : List Step) (n : ℕ) → IsBlock d scope recursions o
@@ -215,10 +223,16 @@ reaches_le d _ _ _ (o ∷ os) (ReachesCharge.begins scope line s items steps n f
 reaches_le d _ _ _ [] (ReachesCharge.asks scope line s items steps m n ask f rest) y = absurd y
 reaches_le d _ _ _ (o ∷ os) (ReachesCharge.asks scope line s items steps m n ask f rest) y =
     let same = ask_keeps line d scope s o ask y.0 in
-    omega (arith, first_charge line d scope s o steps m y.0 f,
-    reaches_le d scope items n os rest (subst (λ (c : Scope). AreOutcomes d c items os) same y.1))
+    omega (
+      arith,
+      first_charge line d scope s o steps m y.0 f,
+      reaches_le d scope items n os rest (subst (λ (c : Scope). AreOutcomes d c items os) same y.1),
+    )
 reaches_le d _ _ _ [] (ReachesCharge.goes_on scope item items o n x rest) y = absurd y
 reaches_le d _ _ _ (p ∷ os) (ReachesCharge.goes_on scope item items o n x rest) y =
     let same = outcome_once d scope item o p x y.0 in
-    omega (arith, same.charge,
-    reaches_le d o.scope items n os rest (subst (λ (c : Scope). AreOutcomes d c items os) (sym same.scope) y.1))
+    omega (
+      arith,
+      same.charge,
+      reaches_le d o.scope items n os rest (subst (λ (c : Scope). AreOutcomes d c items os) (sym same.scope) y.1),
+    )

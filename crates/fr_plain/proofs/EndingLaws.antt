@@ -1,11 +1,9 @@
 -- A statement that asks ends in one way.
-use Rattle.std.proofs.Common.{ℕ, zero, suc, ◌≡◌, ◌<◌, ◌≤◌, ◌+◌, inl, inr, List, [], ◌∷◌, ◌++◌, Result, Ok, Err, Option, length, get_or, map, codes, refl, sym, ◌∙◌, ap, subst, arith}
+use Rattle.std.proofs.Common.{ℕ, zero, suc, ◌≡◌, ◌≤◌, inl, inr, List, [], ◌∷◌, ◌++◌, Ok, Err, length, codes, refl, sym, ◌∙◌, ap, subst, arith}
 use Rattle.std.specs.Fmt.{decimal}
 use Rattle.std.proofs.lemmas.Bool.{cases_order}
 use Rattle.fr_model.specs.Terms.{Term, One, IsAlike}
-use Rattle.fr_model.specs.Automata.{State, state_at}
-use Rattle.fr_model.specs.Canonical.{IsCanonical}
-use Rattle.fr_model.specs.Separation.{IsSeparation}
+use Rattle.fr_model.specs.Automata.{state_at}
 use Rattle.fr_model.specs.Rays.{IsCanonicalRay, IsRayImage}
 use Rattle.fr_model.proofs.AlikeLaws.{alike_refl}
 use Rattle.fr_model.proofs.CanonicalLaws.{canonical_same}
@@ -107,8 +105,8 @@ fewer_powers d t k zero n h x =
 fewer_powers d t k (suc l) n h x = elim (cases_order k (suc l)) [
   | inl e ↦ (n, subst (λ j. AreEvaluated d (power_steps t j) n) (sym e) x)
   | inr o ↦
-    let s = AreEvaluated-split d (power_steps t l) (Multiplied (power t l) t ∷ []) n x in
-    fewer_powers d t k l s.0 (elim o [ inl b ↦ omega (arith, b) | inr b ↦ omega (arith, b, h) ]) s.2
+      let s = AreEvaluated-split d (power_steps t l) (Multiplied (power t l) t ∷ []) n x in
+      fewer_powers d t k l s.0 (elim o [ inl b ↦ omega (arith, b) | inr b ↦ omega (arith, b, h) ]) s.2
 ]
 
 pub not_stopped_before : (d : ℕ) (t : Term) (k l m n : ℕ) (done : List Step) (fault : LineFault) → suc k ≤ l → AreEvaluated d (power_steps t l) m
@@ -150,8 +148,8 @@ ordered_once d t most _ _ (refused l m done fault h i y e' s) (passed k n e f x)
     absurd (not_stopped_before d t l k n m done fault (omega (arith, e, h)) x s)
 ordered_once d t most _ _ (refused k n done fault h i x e s) (refused l m other fault' h' i' y e' s') = elim (cases_order k l) [
   | inl same ↦
-    let z = stopped_once d (power_steps t (suc k)) done other n m fault fault' s (subst (λ j. AreStopped d (power_steps t (suc j)) other m fault') (sym same) s') in
-    (z.1, ap (λ g. Err g) z.2)
+      let z = stopped_once d (power_steps t (suc k)) done other n m fault fault' s (subst (λ j. AreStopped d (power_steps t (suc j)) other m fault') (sym same) s') in
+      (z.1, ap (λ g. Err g) z.2)
   | inr o ↦ elim o [
     | inl b ↦ absurd (not_stopped_before d t k l m n done fault b y s)
     | inr b ↦ absurd (not_stopped_before d t l k n m other fault' b x s')

@@ -1,6 +1,5 @@
 -- The members of a nucleus in order are one list of automata.
-use Rattle.std.proofs.Common.{ℕ, zero, suc, ◌≡◌, ◌<◌, ◌≤◌, ◌+◌, ◌⊎◌, inl, inr, List, [], ◌∷◌, ◌++◌, Result, Ok, Err, length, get_or, map, refl, sym, ◌∙◌, ap, subst, arith}
-use Rattle.std.specs.List.{All}
+use Rattle.std.proofs.Common.{ℕ, zero, suc, ◌≡◌, ◌<◌, ◌≤◌, ◌+◌, ◌⊎◌, inl, inr, List, [], ◌∷◌, Ok, length, get_or, map, refl, sym, ◌∙◌, ap, subst, arith}
 use Rattle.std.proofs.lemmas.List.Elements.{All-from_get_or}
 use Rattle.std.proofs.lemmas.List.{get_or_default}
 use Rattle.fr_model.specs.Terms.{Term, One, IsAlike}
@@ -8,15 +7,15 @@ use Rattle.fr_model.specs.Automata.{State}
 use Rattle.fr_model.specs.Classes.{HasMoreThan, IsClassCount}
 use Rattle.fr_model.specs.Canonical.{IsCanonical, code_of}
 use Rattle.fr_model.specs.Nuclei.{IsGeneratorSection, IsNucleusMember}
-use Rattle.fr_model.proofs.AlikeLaws.{alike_refl, alike_sym, alike_trans}
+use Rattle.fr_model.proofs.AlikeLaws.{alike_sym, alike_trans}
 use Rattle.fr_model.proofs.CanonicalLaws.{lex_irrefl, lex_trans, canonical_same}
 use Rattle.fr_model.proofs.ClassLaws.{size_once}
 use Rattle.fr_model.proofs.CodeLaws.{canonical-IsSize}
 use Rattle.fr_model.proofs.CountLaws.{HasMoreThan-lt}
 use Rattle.fr_model.proofs.LimitLaws.{nucleus_depth_once}
-use Rattle.fr_plain.specs.Steps.{Step, Listed, AreEvaluated}
-use Rattle.fr_plain.specs.Answers.{Ending, fails, IsListedBefore, AreMembers, nucleus_text, HasFewSections, IsContracted, found, many_sections, passed}
-use Rattle.fr_plain.proofs.EndingLaws.{IsSameEnding, EndsOnce}
+use Rattle.fr_plain.specs.Steps.{Listed, AreEvaluated}
+use Rattle.fr_plain.specs.Answers.{IsListedBefore, AreMembers, nucleus_text, IsContracted, found, many_sections, passed}
+use Rattle.fr_plain.proofs.EndingLaws.{EndsOnce}
 
 -- ---- the order of automata
 listed_irrefl : (ps : List State) → IsListedBefore ps ps → ⊥
@@ -89,9 +88,12 @@ charge_is_sizes d [] [] n e c x = x
 charge_is_sizes d [] (p ∷ ps) n e c x = absurd (omega (arith, e))
 charge_is_sizes d (m ∷ ms) [] n e c x = absurd (omega (arith, e))
 charge_is_sizes d (m ∷ ms) (p ∷ ps) n e c x =
-    omega (arith, x.4,
-    size_once d m x.0 (length p) x.2 (canonical-IsSize d m p (c 0 (omega arith))),
-    charge_is_sizes d ms ps x.1 (omega (arith, e)) (λ i l. c (suc i) (omega (arith, l))) x.3)
+    omega (
+      arith,
+      x.4,
+      size_once d m x.0 (length p) x.2 (canonical-IsSize d m p (c 0 (omega arith))),
+      charge_is_sizes d ms ps x.1 (omega (arith, e)) (λ i l. c (suc i) (omega (arith, l))) x.3,
+    )
 
 -- members in order are no two alike, so that there are no more than they are
 members_apart : (d : ℕ) (Q : Term → Type 0) (ms : List Term) (ps : List (List State)) → AreMembers d Q ms ps → (i j : ℕ) → i < j → j < length ms → ¬ IsAlike (get_or ms i One) (get_or ms j One)
@@ -105,8 +107,8 @@ members_count d Q ms ps a = record {
   count = refl;
   valid = All-from_get_or (IsNucleusMember d Q) ms One a.member;
   apart = λ i j z h l same. members_apart d Q ms ps a i j h l (
-    subst (λ u. IsAlike (get_or ms i One) u) (get_or_default ms j z One l)
-    (subst (λ u. IsAlike u (get_or ms j z)) (get_or_default ms i z One (omega (arith, h, l))) same));
+      subst (λ u. IsAlike (get_or ms i One) u) (get_or_default ms j z One l)
+      (subst (λ u. IsAlike u (get_or ms j z)) (get_or_default ms i z One (omega (arith, h, l))) same));
   covers = λ t m.
       let w = a.whole t m in
       (w.0, w.1, subst (λ u. IsAlike t u) (get_or_default ms w.0 One t w.1) w.2);

@@ -1,6 +1,5 @@
 -- An item has one outcome, and a script one text and one charge.
-use Rattle.std.proofs.Common.{ℕ, zero, suc, ◌≡◌, ◌<◌, ◌≤◌, ◌+◌, inl, inr, List, [], ◌∷◌, ◌++◌, Bool, true, false, Result, Ok, Err, Option, Some, None, length, refl, sym, ◌∙◌, ap, subst, arith}
-use Rattle.fr_model.specs.Terms.{Term}
+use Rattle.std.proofs.Common.{ℕ, ◌≡◌, List, Result, Ok, Err, Option, Some, None, length, refl, sym, ◌∙◌, ap, arith}
 use Rattle.fr_script.specs.declared.fault.LineFault.{LineFault}
 use Rattle.fr_script.specs.declared.fault.Fault.{Fault}
 use Rattle.fr_script.specs.FaultTexts.{fault_text}
@@ -10,15 +9,15 @@ use Rattle.fr_script.specs.declared.item.Body.TheVariants as b
 use Rattle.fr_syntax.specs.declared.statement.Recursion.{Recursion}
 use Rattle.fr_syntax.specs.declared.statement.Statement.{Statement}
 use Rattle.fr_syntax.specs.declared.statement.Statement.TheVariants as st
-use Rattle.fr_plain.specs.Scopes.{Scope, Binding, bind_names}
-use Rattle.fr_plain.specs.Blocks.{block_system, names_of}
+use Rattle.fr_plain.specs.Scopes.{Scope}
+use Rattle.fr_plain.specs.Blocks.{block_system}
 use Rattle.fr_plain.specs.BlockNames.{names_fault}
-use Rattle.fr_plain.specs.Steps.{Step, AreEvaluated, AreStopped}
-use Rattle.fr_plain.specs.Expansions.{Expansion, expansion, expansions, steps_of_all, values_of_all}
+use Rattle.fr_plain.specs.Steps.{Step}
+use Rattle.fr_plain.specs.Expansions.{Expansion, expansion, expansions, values_of_all}
 use Rattle.fr_plain.specs.Answers.{Ending}
-use Rattle.fr_plain.specs.Outcomes.{Outcome, refuse, define, reply, IsReply, stopped, ended, definitions, line_at, IsBlock, IsChecked, binds, IsLet, IsStatement, IsBody, IsOutcome}
+use Rattle.fr_plain.specs.Outcomes.{Outcome, refuse, reply, IsReply, stopped, ended, definitions, line_at, IsBlock, IsChecked, IsLet, IsStatement, IsBody, IsOutcome}
 use Rattle.fr_plain.proofs.StepLaws.{evaluated_once, stopped_once, evaluated_not_stopped}
-use Rattle.fr_plain.proofs.EndingLaws.{IsSameEnding, EndsOnce, shown_once, counted_once, unfolded_once, classified_once, compared_once, mapped_once, ray_mapped_once, ordered_once}
+use Rattle.fr_plain.proofs.EndingLaws.{EndsOnce, shown_once, counted_once, unfolded_once, classified_once, compared_once, mapped_once, ray_mapped_once, ordered_once}
 use Rattle.fr_plain.proofs.MemberLaws.{contracted_once}
 
 -- two outcomes write the same and bind the same

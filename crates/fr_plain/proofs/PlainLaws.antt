@@ -1,5 +1,5 @@
 -- A script writes one text, and is charged one number.
-use Rattle.std.proofs.Common.{ℕ, ◌≡◌, ◌<◌, ◌+◌, ◌||◌, Bool, List, [], ◌∷◌, ◌++◌, refl, sym, ◌∙◌, ap, subst, arith}
+use Rattle.std.proofs.Common.{ℕ, ◌≡◌, ◌<◌, ◌||◌, Bool, List, [], ◌∷◌, ◌++◌, sym, ◌∙◌, ap, subst, arith}
 use Rattle.fr_script.specs.declared.item.Item.{Item}
 use Rattle.fr_script.specs.declared.script.Script.{Script}
 use Rattle.fr_script.proofs.BlockLaws.{one_script}

@@ -1,6 +1,6 @@
 -- What statements that ask answer of elements: their texts, in this project's own notation, the steps that they make beside
 -- those of their expressions, and the faults that end them.
-use Rattle.std.specs.Prelude.{ℕ, zero, suc, ◌≡◌, ◌⊎◌, ◌+◌, ◌<◌, ◌≤◌, List, [], ◌∷◌, ◌++◌, length, map, codes, slice_index_or, Contains, Option, Some, None, Result, Ok, Err}
+use Rattle.std.specs.Prelude.{ℕ, zero, suc, ◌≡◌, ◌⊎◌, ◌+◌, ◌<◌, ◌≤◌, List, [], ◌∷◌, ◌++◌, length, map, codes, slice_index_or, Option, Some, None, Result, Ok, Err}
 use Rattle.std.specs.Fmt.{decimal}
 use Rattle.fr_model.specs.Terms.{Term, One, Product, act, IsAlike}
 use Rattle.fr_model.specs.Automata.{State, state_at}

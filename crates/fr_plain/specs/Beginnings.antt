@@ -1,21 +1,19 @@
 -- The first steps that statements and scripts evaluate, and scripts whose charge passes a number: such a script has first
 -- steps that are charged more.
-use Rattle.std.specs.Prelude.{ℕ, zero, suc, ◌≡◌, ◌+◌, ◌<◌, ◌≤◌, List, [], ◌∷◌, ◌++◌, length, map, take, Option, Some, None}
+use Rattle.std.specs.Prelude.{ℕ, ◌≡◌, ◌+◌, ◌<◌, List, [], ◌∷◌, ◌++◌, length, Option, Some, None}
 use Rattle.fr_model.specs.Terms.{Term}
 use Rattle.fr_script.specs.declared.fault.Fault.{Fault}
 use Rattle.fr_script.specs.declared.item.Item.{Item}
-use Rattle.fr_script.specs.declared.item.Body.{Body}
 use Rattle.fr_script.specs.declared.item.Body.TheVariants as b
 use Rattle.fr_script.specs.declared.script.Script.{Script}
 use Rattle.fr_script.specs.Scripts.{IsScript}
 use Rattle.fr_syntax.specs.declared.statement.Recursion.{Recursion}
 use Rattle.fr_syntax.specs.declared.statement.Statement.{Statement}
 use Rattle.fr_syntax.specs.declared.statement.Statement.TheVariants as st
-use Rattle.fr_syntax.specs.declared.tree.Expr.{Expr}
 use Rattle.fr_plain.specs.Scopes.{Scope}
 use Rattle.fr_plain.specs.Blocks.{block_system}
 use Rattle.fr_plain.specs.BlockNames.{names_fault}
-use Rattle.fr_plain.specs.Steps.{Step, Listed, AreEvaluated}
+use Rattle.fr_plain.specs.Steps.{Step, AreEvaluated}
 use Rattle.fr_plain.specs.Expansions.{expansion, expansions, steps_of_all, values_of_all}
 use Rattle.fr_plain.specs.Answers.{Ending, power_steps, HasNoOrder, IsContracted}
 use Rattle.fr_plain.specs.Outcomes.{Outcome, IsOutcome, definitions}

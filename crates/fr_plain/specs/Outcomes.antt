@@ -1,20 +1,18 @@
 -- What an item of a script gives by plain evaluation: its text, its charge, and the names that the lines below it see.
-use Rattle.std.specs.Prelude.{ℕ, ◌≡◌, ◌⊎◌, ◌+◌, Bool, true, false, List, [], ◌∷◌, ◌++◌, length, map, slice_index_or, Option, Some, None, Result, Ok, Err}
+use Rattle.std.specs.Prelude.{ℕ, ◌≡◌, ◌+◌, Bool, true, false, List, [], ◌∷◌, ◌++◌, length, map, slice_index_or, Option, Some, None, Result, Ok, Err}
 use Rattle.fr_model.specs.Systems.{System}
 use Rattle.fr_model.specs.Terms.{Term}
 use Rattle.fr_script.specs.declared.fault.LineFault.{LineFault}
-use Rattle.fr_script.specs.declared.fault.LineFault.TheVariants as f
 use Rattle.fr_script.specs.declared.fault.Fault.{Fault}
 use Rattle.fr_script.specs.declared.item.Item.{Item}
 use Rattle.fr_script.specs.declared.item.Body.{Body}
 use Rattle.fr_script.specs.declared.item.Body.TheVariants as b
 use Rattle.fr_script.specs.FaultTexts.{fault_text}
 use Rattle.fr_syntax.specs.declared.statement.Recursion.{Recursion}
-use Rattle.fr_syntax.specs.declared.statement.Ray.{Ray}
 use Rattle.fr_syntax.specs.declared.statement.Statement.{Statement}
 use Rattle.fr_syntax.specs.declared.statement.Statement.TheVariants as st
 use Rattle.fr_syntax.specs.declared.tree.Expr.{Expr}
-use Rattle.fr_plain.specs.Scopes.{Scope, Binding, bind_names}
+use Rattle.fr_plain.specs.Scopes.{Scope, bind_names}
 use Rattle.fr_plain.specs.Blocks.{block_system, names_of}
 use Rattle.fr_plain.specs.BlockNames.{names_fault}
 use Rattle.fr_plain.specs.Steps.{Step, Defined, AreEvaluated, AreStopped}

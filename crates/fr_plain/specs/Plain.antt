@@ -1,10 +1,9 @@
 -- The plain evaluation of a script: its items in order of lines, one after the other, where an element is its map on words.
-use Rattle.std.specs.Prelude.{ℕ, ◌≡◌, ◌+◌, ◌<◌, ◌||◌, Bool, false, List, [], ◌∷◌, ◌++◌}
+use Rattle.std.specs.Prelude.{ℕ, ◌≡◌, ◌+◌, ◌||◌, Bool, false, List, [], ◌∷◌, ◌++◌}
 use Rattle.fr_script.specs.declared.item.Item.{Item}
 use Rattle.fr_script.specs.declared.script.Script.{Script}
 use Rattle.fr_script.specs.Scripts.{IsScript}
 use Rattle.fr_plain.specs.Scopes.{Scope}
-use Rattle.fr_plain.specs.Steps.{Step, AreEvaluated}
 use Rattle.fr_plain.specs.Outcomes.{Outcome, IsOutcome}
 
 -- each item gives the outcome of its place, where it sees what the outcomes before it bind

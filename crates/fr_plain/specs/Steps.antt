@@ -1,6 +1,6 @@
 -- The steps of an evaluation: what each makes, what it is charged, and when it is refused. The charge and the limits are
 -- this project's own.
-use Rattle.std.specs.Prelude.{ℕ, ◌≡◌, ◌⊎◌, ◌+◌, ◌<◌, ◌≤◌, List, [], ◌∷◌, ◌++◌, Option, Some, None}
+use Rattle.std.specs.Prelude.{ℕ, ◌≡◌, ◌⊎◌, ◌+◌, ◌≤◌, List, [], ◌∷◌, ◌++◌, Option, Some, None}
 use Rattle.fr_model.specs.Systems.{System}
 use Rattle.fr_model.specs.Terms.{Term, One, Name, Inverse, Product, Section}
 use Rattle.fr_model.specs.Classes.{IsSize, HasMoreStates, IsPairCount, HasMorePairs}

@@ -1,0 +1,10 @@
+pub mod Store
+pub mod Through
+pub mod Walked
+pub mod Blocks
+pub mod Coded
+pub mod Index
+pub mod Props
+pub mod Rebuilt
+pub mod Entered
+pub mod VecView

@@ -1,0 +1,150 @@
+//! A store for one thread, on blocks of rows.
+
+ghost use Rattle.std.specs.Prelude.{ℕ, ◌≡◌, ◌≤◌, ◌<◌, ◌+◌, ◌*◌, IfOk, length, vec_capacity};
+ghost use Rattle.fr_store.specs.Coded.{codes_of};
+ghost use Rattle.fr_store.specs.Index.{IsIndex, IsTable, known_in};
+ghost use Rattle.fr_store.specs.Store.{AreHandles, IsHandleCount, Reads};
+
+use crate::blocks::Blocks;
+use crate::handle::{Full, Handle};
+use crate::index::{Desk, Index};
+use crate::rebuild::{count_states, rebuild};
+use crate::store::Store;
+use fr_alphabet::{Alphabet, NoMemory, Perm};
+use fr_canon::canon;
+use fr_machine::Minimal;
+use std::alloc::Global;
+
+/// A store for one thread. It keeps the rows of the elements that were claimed, and finds its handles by a hash of their
+/// codes; a code is made again from the rows where it is compared. All memory is taken when it is made. This project's own.
+#[derive(Debug, Drop)]
+pub struct VecStore {
+    blocks: Blocks,
+    index: Index,
+    capacity: u32,
+    desk: Desk,
+    ghost is_index: { IsIndex (codes_of blocks) (length blocks.rows.items) index.handles.items index.links.items },
+    ghost is_table: { IsTable (codes_of blocks) index.handles.items index.cells.items },
+    ghost whole: { length index.links.items ≡ length blocks.rows.items },
+    ghost fits: { length blocks.rows.items ≤ capacity },
+    ghost some: { 1 ≤ capacity },
+    ghost limit: { capacity ≤ 1048576 },
+    ghost half: { 2 * capacity ≤ length index.cells.items },
+    ghost row_room: { capacity ≤ vec_capacity blocks.rows },
+    ghost place_room: { capacity ≤ vec_capacity blocks.places },
+    ghost handle_room: { capacity ≤ vec_capacity index.handles },
+    ghost link_room: { capacity ≤ vec_capacity index.links },
+}
+
+impl VecStore {
+    ghost use Rattle.std.specs.Prelude.{None};
+    ghost use Rattle.fr_store.specs.VecView.{vec_view};
+
+    /// A store of elements over the alphabet that knows none, and may claim so many rows, 1 to 1,048,576. All memory is
+    /// taken here. The only error is want of memory.
+    pub fn new(alloc: Global, a: Alphabet, capacity: u32) -> Result<VecStore, NoMemory>
+        requires least { 1 ≤ capacity }
+        requires limit { capacity ≤ 1048576 }
+        ensures alphabet { IfOk result (λ s. vec_view.alphabet s ≡ a) }
+        ensures capacity { IfOk result (λ s. vec_view.capacity s ≡ capacity) }
+        ensures own { IfOk result (λ s. vec_view.own s ≡ 0) }
+        ensures known { IfOk result (λ s. (n : ℕ) → vec_view.known s n ≡ None) }
+        ensures handles { IfOk result (λ s. AreHandles (vec_view.alphabet s) (vec_view.known s)) }
+    {
+        Ok(VecStore {
+            blocks: Blocks::new(alloc, a, capacity as usize)?,
+            index: Index::new(alloc, capacity)?,
+            capacity,
+            desk: Desk::new(alloc)?,
+        })
+    }
+
+    /// How many rows are claimed, which is the `before` of its `Full`.
+    pub fn claimed(&self) -> u64
+        ensures { result ≡ vec_view.own self.now }
+    {
+        self.blocks.rows.len() as u64
+    }
+
+    /// How many handles it has given, to elements and to their sections.
+    pub fn census(&self) -> u64
+        ensures { IsHandleCount (vec_view.known self.now) result }
+    {
+        self.index.handles.len() as u64
+    }
+}
+
+impl Store for VecStore {
+    ghost use Rattle.fr_store.specs.VecView.{vec_view};
+
+    ghost view = { vec_view };
+
+    ghost use Rattle.std.specs.Prelude.{None};
+    ghost use Rattle.std.proofs.Common.{refl, ◌∙◌};
+
+    ghost kin_to_self = { λ s. (refl, refl) };
+
+    ghost kin_onward = { λ s t u a b. (b.0 ∙ a.0, b.1 ∙ a.1) };
+
+    fn alphabet(&self) -> Alphabet {
+        self.blocks.alphabet
+    }
+
+    fn capacity(&self) -> u64 {
+        self.capacity as u64
+    }
+
+    fn intern(&mut self, m: &Minimal) -> Result<Handle, Full> {
+        let asked = m.machine().rows().len();
+        canon(&mut self.desk.scratch, m, 0, &mut self.desk.wanted);
+        if let Ok(node) = self.index.search(&self.blocks, &mut self.desk) {
+            return Ok(Handle { node });
+        }
+        let before = self.blocks.rows.len();
+        if before + asked > self.capacity as usize {
+            return Err(Full {
+                before: before as u64,
+                asked: asked as u64,
+            });
+        }
+        let node = self.index.enter(&mut self.blocks, &mut self.desk, m);
+        Ok(Handle { node })
+    }
+
+    fn equal(&self, a: Handle, b: Handle) -> bool {
+        a.node == b.node
+    }
+
+    fn output(&mut self, h: Handle) -> Perm {
+        self.blocks.perm(h.node)
+    }
+
+    fn section(&mut self, h: Handle, x: u8) -> Handle {
+        let row = self.blocks.next(h.node, x);
+        Handle {
+            node: self.index.links[row as usize],
+        }
+    }
+
+    fn states(&mut self, h: Handle) -> u16 {
+        self.blocks
+            .code(&mut self.desk.scratch, h.node, &mut self.desk.wanted);
+        count_states(self.blocks.alphabet, self.desk.wanted.numbers())
+    }
+
+    fn machine(&mut self, alloc: Global, h: Handle) -> Result<Minimal, NoMemory> {
+        self.blocks
+            .code(&mut self.desk.scratch, h.node, &mut self.desk.wanted);
+        rebuild(alloc, self.blocks.alphabet, self.desk.wanted.numbers())
+    }
+
+    /// None always, since it keeps no products.
+    fn recall(&mut self, _a: Handle, _b: Handle) -> Option<Handle>
+        ensures nothing { result ≡ None }
+        ensures reads { Reads vec_view self.old self.new }
+    {
+        None
+    }
+
+    fn remember(&mut self, _a: Handle, _b: Handle, _c: Handle) {}
+}
