@@ -13,12 +13,12 @@ use Rattle.fr_plain.specs.Blocks.{block_system}
 use Rattle.fr_plain.specs.BlockNames.{names_fault}
 use Rattle.fr_plain.specs.Steps.{Step, Multiplied, IsCharged, IsRefused, AreEvaluated, AreStopped}
 use Rattle.fr_plain.specs.Expansions.{Expansion, expansion, expansions, values_of_all}
-use Rattle.fr_plain.specs.Answers.{Ending, power, power_steps, IsOrdered, IsContracted}
-use Rattle.fr_plain.specs.Outcomes.{Outcome, reply, IsReply, stopped, ended, definitions, IsBlock, IsChecked, IsLet, IsStatement}
+use Rattle.fr_plain.specs.Answers.{Ending, power, power_steps, AnswersOrder, AnswersNucleus}
+use Rattle.fr_plain.specs.Outcomes.{Outcome, reply, IsReply, stopped, ended, name_steps, DefinesBlock, DefinesGroup, DefinesName, IsStatement}
 use Rattle.fr_plain.specs.Plain.{AreOutcomes, charge_of}
-use Rattle.fr_plain.specs.Beginnings.{block_steps, statement_steps, AreFirstPowers, AreFirstMembers, AreFirst, within, beside, IsAsk, ReachesCharge}
+use Rattle.fr_plain.specs.Beginnings.{block_steps, statement_steps, AreFirstPowers, AreFirstMembers, AreFirstSteps, within, beside, IsAsk, ReachesCharge}
 use Rattle.fr_plain.proofs.StepLaws.{evaluated_once, charge_once, charged_not_refused, evaluated_not_stopped, AreEvaluated-split}
-use Rattle.fr_plain.proofs.EndingLaws.{order_least, not_stopped_before}
+use Rattle.fr_plain.proofs.EndingLaws.{order_least, not_stopped_before, stopped_power}
 use Rattle.fr_plain.proofs.MemberLaws.{contracted_once}
 use Rattle.fr_plain.proofs.OutcomeLaws.{outcome_once}
 
@@ -102,27 +102,27 @@ powers_le d t k (suc l) m n h x y = elim (cases_order k (suc l)) [
       omega (arith, r, s.4)
 ]
 
-powers_covered : (d : ℕ) (t : Term) (most : ℕ) (more : List Step) → AreFirstPowers d t most more → Covers d (IsOrdered d t most) more
-powers_covered d t most more p _ b (IsOrdered.found k n less before h y) x =
+powers_covered : (d : ℕ) (t : Term) (most : ℕ) (more : List Step) → AreFirstPowers d t most more → Covers d (AnswersOrder d t most) more
+powers_covered d t most more p _ b (AnswersOrder.found k n less before h y) x =
     powers_le d t p.count k b n (order_least t p.count k p.needed h) (subst (λ (l : List Step). AreEvaluated d l b) p.powers x) y
-powers_covered d t most more p _ b (IsOrdered.none e) x = absurd (omega (arith, p.within, e))
-powers_covered d t most more p _ b (IsOrdered.passed k n e before y) x =
+powers_covered d t most more p _ b (AnswersOrder.none e) x = absurd (omega (arith, p.within, e))
+powers_covered d t most more p _ b (AnswersOrder.passed k n e before y) x =
     powers_le d t p.count k b n (omega (arith, e, p.within)) (subst (λ (l : List Step). AreEvaluated d l b) p.powers x) y
-powers_covered d t most more p _ b (IsOrdered.refused k n done f h before y e s) x = elim (cases_order p.count (suc k)) [
-  | inl c ↦ absurd (not_stopped_before d t k p.count b n done f (omega (arith, c)) (subst (λ (l : List Step). AreEvaluated d l b) p.powers x) s)
+powers_covered d t most more p _ b (AnswersOrder.refused k n f h before y r) x = elim (cases_order p.count (suc k)) [
+  | inl c ↦ absurd (not_stopped_before d t k p.count b n (power_steps t k) f (omega (arith, c)) (subst (λ (l : List Step). AreEvaluated d l b) p.powers x) (stopped_power d t k n f y r))
   | inr o ↦ elim o [
     | inl c ↦ powers_le d t p.count k b n (omega (arith, c)) (subst (λ (l : List Step). AreEvaluated d l b) p.powers x) y
-    | inr c ↦ absurd (not_stopped_before d t k p.count b n done f (omega (arith, c)) (subst (λ (l : List Step). AreEvaluated d l b) p.powers x) s)
+    | inr c ↦ absurd (not_stopped_before d t k p.count b n (power_steps t k) f (omega (arith, c)) (subst (λ (l : List Step). AreEvaluated d l b) p.powers x) (stopped_power d t k n f y r))
   ]
 ]
 
 -- ---- members
-contracted_evaluated : (d : ℕ) (gens : List Term) (e : Ending) → IsContracted d gens e → AreEvaluated d e.steps e.charge
-contracted_evaluated d gens _ (IsContracted.found members automata depth n few a least k x) = x
-contracted_evaluated d gens _ (IsContracted.many_sections more) = refl
-contracted_evaluated d gens _ (IsContracted.passed few more) = refl
+contracted_evaluated : (d : ℕ) (gens : List Term) (e : Ending) → AnswersNucleus d gens e → AreEvaluated d e.steps e.charge
+contracted_evaluated d gens _ (AnswersNucleus.found members automata depth n few a least k x) = x
+contracted_evaluated d gens _ (AnswersNucleus.many_sections more) = refl
+contracted_evaluated d gens _ (AnswersNucleus.passed few more) = refl
 
-members_covered : (d : ℕ) (gens : List Term) (more : List Step) → AreFirstMembers d gens more → Covers d (IsContracted d gens) more
+members_covered : (d : ℕ) (gens : List Term) (more : List Step) → AreFirstMembers d gens more → Covers d (AnswersNucleus d gens) more
 members_covered d gens more p e b w x =
     omega (
       arith,
@@ -130,25 +130,25 @@ members_covered d gens more p e b w x =
       (contracted_once d gens p.ending e p.contracts w).0,
     )
 
--- ---- definitions
-block_within : (d : ℕ) (scope : Scope) (recursions : List Recursion) (o : Outcome) (done rest : List Step) (n : ℕ) → IsBlock d scope recursions o
-    → definitions (block_system recursions) (length recursions) ≡ done ++ rest → AreEvaluated d done n → n ≤ o.charge
-block_within d scope recursions _ done rest n (IsBlock.stopped other m f s) e x = first_before_stop d _ done rest other n m f e x s
-block_within d scope recursions _ done rest n (IsBlock.binds m y) e x = first_in_evaluated d _ done rest n m e x y
+-- ---- name_steps
+block_within : (d : ℕ) (scope : Scope) (recursions : List Recursion) (o : Outcome) (done rest : List Step) (n : ℕ) → DefinesBlock d scope recursions o
+    → name_steps (block_system recursions) (length recursions) ≡ done ++ rest → AreEvaluated d done n → n ≤ o.charge
+block_within d scope recursions _ done rest n (DefinesBlock.stopped other m f s) e x = first_before_stop d _ done rest other n m f e x s
+block_within d scope recursions _ done rest n (DefinesBlock.binds m y) e x = first_in_evaluated d _ done rest n m e x y
 
 empty_first : (d : ℕ) (done rest : List Step) (n : ℕ) → [] ≡ done ++ rest → AreEvaluated d done n → n ≡ 0
 empty_first d [] rest n e x = x
 empty_first d (s ∷ done) rest n e x = absurd (omega (arith, ap length e))
 
-checked_within : (d : ℕ) (scope : Scope) (recursions : List Recursion) (fault : Option Fault) (o : Outcome) (done rest : List Step) (n : ℕ) → IsChecked d scope recursions fault o
+checked_within : (d : ℕ) (scope : Scope) (recursions : List Recursion) (fault : Option Fault) (o : Outcome) (done rest : List Step) (n : ℕ) → DefinesGroup d scope recursions fault o
     → block_steps recursions fault ≡ done ++ rest → AreEvaluated d done n → n ≤ o.charge
 checked_within d scope recursions (Some fault) o done rest n x e y = omega (arith, empty_first d done rest n e y)
 checked_within d scope recursions None o done rest n x e y = block_within d scope recursions o done rest n x e y
 
-let_within : (line d : ℕ) (scope : Scope) (name : List ℕ) (e : Expansion) (o : Outcome) (done rest : List Step) (n : ℕ) → IsLet line d scope name e o
+let_within : (line d : ℕ) (scope : Scope) (name : List ℕ) (e : Expansion) (o : Outcome) (done rest : List Step) (n : ℕ) → DefinesName line d scope name e o
     → e.steps ≡ done ++ rest → AreEvaluated d done n → n ≤ o.charge
-let_within line d scope name e _ done rest n (IsLet.stopped other m f s) h x = first_before_stop d _ done rest other n m f h x s
-let_within line d scope name e _ done rest n (IsLet.binds m y) h x = first_in_evaluated d _ done rest n m h x y
+let_within line d scope name e _ done rest n (DefinesName.stopped other m f s) h x = first_before_stop d _ done rest other n m f h x s
+let_within line d scope name e _ done rest n (DefinesName.binds m y) h x = first_in_evaluated d _ done rest n m h x y
 
 -- ---- statements
 statement_within : (line d : ℕ) (scope : Scope) (s : Statement) (o : Outcome) (done rest : List Step) (n : ℕ) → IsStatement line d scope s o
@@ -183,7 +183,7 @@ alone : (line d : ℕ) (scope : Scope) (s : Statement) (o : Outcome) (more : Lis
 alone line d scope s o more n x e y =
     statement_within line d scope s o (statement_steps scope s) [] n x (nil_right (statement_steps scope s)) (none_more d (statement_steps scope s) more n e y)
 
-first_charge : (line d : ℕ) (scope : Scope) (s : Statement) (o : Outcome) (steps : List Step) (n : ℕ) → IsStatement line d scope s o → AreFirst d scope s steps n → n ≤ o.charge
+first_charge : (line d : ℕ) (scope : Scope) (s : Statement) (o : Outcome) (steps : List Step) (n : ℕ) → IsStatement line d scope s o → AreFirstSteps d scope s steps n → n ≤ o.charge
 first_charge line d scope s o _ _ x (within done rest n e y) = statement_within line d scope s o done rest n x e y
 first_charge line d scope (st.Alphabet a) o _ _ x (beside more n p y) = alone line d scope (st.Alphabet a) o more n x p y
 first_charge line d scope (st.Group recursions) o _ _ x (beside more n p y) = alone line d scope (st.Group recursions) o more n x p y
@@ -236,3 +236,9 @@ reaches_le d _ _ _ (p ∷ os) (ReachesCharge.goes_on scope item items o n x rest
       same.charge,
       reaches_le d o.scope items n os rest (subst (λ (c : Scope). AreOutcomes d c items os) (sym same.scope) y.1),
     )
+
+-- whole outcomes reach their charge
+pub whole_reaches : (d : ℕ) (scope : Scope) (items : List Item) (os : List Outcome) → AreOutcomes d scope items os → ReachesCharge d scope items (charge_of os)
+whole_reaches d scope [] os x = subst (λ (l : List Outcome). ReachesCharge d scope [] (charge_of l)) (sym x) (ReachesCharge.stops scope [])
+whole_reaches d scope (item ∷ items) [] x = absurd x
+whole_reaches d scope (item ∷ items) (o ∷ os) x = ReachesCharge.goes_on scope item items o (charge_of os) x.0 (whole_reaches d o.scope items os x.1)

@@ -20,8 +20,8 @@ use Rattle.fr_alphabet.specs.Writing.{word_text}
 use Rattle.fr_ray.specs.Rays.{RayView, IsLongImage}
 use Rattle.fr_ray.specs.Writing.{ray_text}
 use Rattle.fr_script.specs.declared.fault.LineFault.{LineFault}
-use Rattle.fr_plain.specs.Steps.{Step, Multiplied, AreEvaluated, AreStopped}
-use Rattle.fr_plain.specs.Answers.{Ending, says, fails, line_of, IsShown, IsCounted, IsUnfolded, IsClassified, IsCompared, comparison_text, IsMapped, IsShortImage, IsRayMapped, power_steps, power, HasNoOrder, IsOrdered, found, none, passed, refused}
+use Rattle.fr_plain.specs.Steps.{Step, Multiplied, IsRefused, AreEvaluated, AreStopped}
+use Rattle.fr_plain.specs.Answers.{Ending, says, fails, line_of, AnswersShow, AnswersStates, AnswersWreath, AnswersClass, AnswersEq, comparison_text, AnswersAct, IsShortImage, AnswersRay, power_steps, power, HasNoOrder, AnswersOrder, found, none, passed, refused}
 use Rattle.fr_plain.proofs.StepLaws.{evaluated_once, stopped_once, evaluated_not_stopped, AreEvaluated-split}
 
 -- two endings have one charge, and one text or fault
@@ -40,13 +40,13 @@ failed_once : (e f : Ending) (g : LineFault) → e ≡ fails g → f ≡ fails g
 failed_once e f g a b =
     (ap (λ (x : Ending). x.charge) a ∙ sym (ap (λ (x : Ending). x.charge) b), ap (λ (x : Ending). x.answer) a ∙ sym (ap (λ (x : Ending). x.answer) b))
 
-pub shown_once : (d : ℕ) (t : Term) → EndsOnce (IsShown d t)
+pub shown_once : (d : ℕ) (t : Term) → EndsOnce (AnswersShow d t)
 shown_once d t e f a b = said_once e f _ _ a.ends b.ends (ap machine_text (canonical_same d t t a.states b.states a.canonical b.canonical (alike_refl t)))
 
-pub counted_once : (d : ℕ) (t : Term) → EndsOnce (IsCounted d t)
+pub counted_once : (d : ℕ) (t : Term) → EndsOnce (AnswersStates d t)
 counted_once d t e f a b = said_once e f _ _ a.ends b.ends (ap (λ n. line_of (decimal n)) (size_once d t a.size b.size a.is_size b.is_size))
 
-pub unfolded_once : (d : ℕ) (t : Term) → EndsOnce (IsUnfolded d t)
+pub unfolded_once : (d : ℕ) (t : Term) → EndsOnce (AnswersWreath d t)
 unfolded_once d t e f a b =
     said_once e f _ _ a.ends b.ends (ap (λ qs. line_of (wreath_text (state_at qs 0))) (canonical_same d t t a.states b.states a.canonical b.canonical (alike_refl t)))
 
@@ -66,14 +66,14 @@ class_text_once d t (Exponential at u v) (Exponential at' u' v') x y =
     ∙ ap (λ w. codes "exponential at " ++ word_text at' ++ codes " by " ++ word_text w ++ codes " " ++ word_text v) h.1
     ∙ ap (λ w. codes "exponential at " ++ word_text at' ++ codes " by " ++ word_text u' ++ codes " " ++ word_text w) h.2
 
-pub classified_once : (d : ℕ) (t : Term) → EndsOnce (IsClassified d t)
+pub classified_once : (d : ℕ) (t : Term) → EndsOnce (AnswersClass d t)
 classified_once d t e f a b = said_once e f _ _ a.ends b.ends (ap line_of (class_text_once d t a.class b.class a.is_class b.is_class))
 
-pub compared_once : (d : ℕ) (t u : Term) → EndsOnce (IsCompared d t u)
+pub compared_once : (d : ℕ) (t u : Term) → EndsOnce (AnswersEq d t u)
 compared_once d t u e f a b =
     said_once e f _ _ a.ends b.ends (ap (λ o. line_of (comparison_text t u o)) (separation_once d t u a.found b.found a.separates b.separates))
 
-pub mapped_once : (t : Term) (w : List ℕ) → EndsOnce (IsMapped t w)
+pub mapped_once : (t : Term) (w : List ℕ) → EndsOnce (AnswersAct t w)
 mapped_once t w e f a b = said_once e f _ _ a b refl
 
 -- ---- rays
@@ -86,7 +86,7 @@ not_short_and_long d t ray text a b =
     let h = image_once d t ray a.image.before a.image.period b.before b.period a.canonical b.canonical a.is_image b.image in
     omega (arith, a.short, b.long, ap length h.0, ap length h.1)
 
-pub ray_mapped_once : (d : ℕ) (t : Term) (ray : RayView) → EndsOnce (IsRayMapped d t ray)
+pub ray_mapped_once : (d : ℕ) (t : Term) (ray : RayView) → EndsOnce (AnswersRay d t ray)
 ray_mapped_once d t ray e f (inl a) (inl b) =
     let h = image_once d t ray a.1.image.before a.1.image.period b.1.image.before b.1.image.period a.1.canonical b.1.canonical a.1.is_image b.1.is_image in
     let same : a.0 ≡ b.0 = a.1.text_is ∙ ap (λ u. ray_text (record { before = u; period = a.1.image.period })) h.0
@@ -122,36 +122,42 @@ order_least t k l before h = elim (cases_order l k) [
   | inr o ↦ elim o [ inl b ↦ absurd (before l b h) | inr b ↦ omega (arith, b) ]
 ]
 
-pub ordered_once : (d : ℕ) (t : Term) (most : ℕ) → EndsOnce (IsOrdered d t most)
+-- the steps of the next power stop before it
+pub stopped_power : (d : ℕ) (t : Term) (k n : ℕ) (fault : LineFault) → AreEvaluated d (power_steps t k) n → IsRefused d (Multiplied (power t k) t) fault
+    → AreStopped d (power_steps t (suc k)) (power_steps t k) n fault
+stopped_power d t k n fault x r = record { next = Multiplied (power t k) t; rest = []; all = refl; evaluated = x; refused = r }
+
+pub ordered_once : (d : ℕ) (t : Term) (most : ℕ) → EndsOnce (AnswersOrder d t most)
 ordered_once d t most _ _ (found k n a b c x) (found l m a' b' c' y) =
     let h : k ≡ l = omega (arith, order_least t k l b c', order_least t l k b' c) in
     (evaluated_once d (power_steps t k) n m x (subst (λ j. AreEvaluated d (power_steps t j) m) (sym h) y), ap (λ j. Ok (line_of (decimal (suc j)))) h)
 ordered_once d t most _ _ (found k n a b c x) (none e) = absurd (omega (arith, a, e))
 ordered_once d t most _ _ (found k n a b c x) (passed l m e f y) = absurd (f k a c)
-ordered_once d t most _ _ (found k n a b c x) (refused l m done fault h i y e s) =
-    absurd (not_stopped_before d t l k n m done fault (order_least t (suc l) k i c) x s)
+ordered_once d t most _ _ (found k n a b c x) (refused l m fault h i y r) =
+    absurd (not_stopped_before d t l k n m (power_steps t l) fault (order_least t (suc l) k i c) x (stopped_power d t l m fault y r))
 ordered_once d t most _ _ (none e) (found k n a b c x) = absurd (omega (arith, a, e))
 ordered_once d t most _ _ (none e) (none e') = (refl, refl)
 ordered_once d t most _ _ (none e) (passed l m e' f y) = absurd (omega (arith, e, e'))
-ordered_once d t most _ _ (none e) (refused l m done fault h i y e' s) = absurd (omega (arith, e, h))
+ordered_once d t most _ _ (none e) (refused l m fault h i y r) = absurd (omega (arith, e, h))
 ordered_once d t most _ _ (passed l m e f y) (found k n a b c x) = absurd (f k a c)
 ordered_once d t most _ _ (passed l m e f y) (none e') = absurd (omega (arith, e, e'))
 ordered_once d t most _ _ (passed l m e f y) (passed k n e' f' x) =
     let h : l ≡ k = omega (arith, e, e') in
     (evaluated_once d (power_steps t l) m n y (subst (λ j. AreEvaluated d (power_steps t j) n) (sym h) x), refl)
-ordered_once d t most _ _ (passed k n e f x) (refused l m done fault h i y e' s) =
-    absurd (not_stopped_before d t l k n m done fault (omega (arith, e, h)) x s)
-ordered_once d t most _ _ (refused l m done fault h i y e s) (found k n a b c x) =
-    absurd (not_stopped_before d t l k n m done fault (order_least t (suc l) k i c) x s)
-ordered_once d t most _ _ (refused l m done fault h i y e' s) (none e) = absurd (omega (arith, e, h))
-ordered_once d t most _ _ (refused l m done fault h i y e' s) (passed k n e f x) =
-    absurd (not_stopped_before d t l k n m done fault (omega (arith, e, h)) x s)
-ordered_once d t most _ _ (refused k n done fault h i x e s) (refused l m other fault' h' i' y e' s') = elim (cases_order k l) [
+ordered_once d t most _ _ (passed k n e f x) (refused l m fault h i y r) =
+    absurd (not_stopped_before d t l k n m (power_steps t l) fault (omega (arith, e, h)) x (stopped_power d t l m fault y r))
+ordered_once d t most _ _ (refused l m fault h i y r) (found k n a b c x) =
+    absurd (not_stopped_before d t l k n m (power_steps t l) fault (order_least t (suc l) k i c) x (stopped_power d t l m fault y r))
+ordered_once d t most _ _ (refused l m fault h i y r) (none e) = absurd (omega (arith, e, h))
+ordered_once d t most _ _ (refused l m fault h i y r) (passed k n e f x) =
+    absurd (not_stopped_before d t l k n m (power_steps t l) fault (omega (arith, e, h)) x (stopped_power d t l m fault y r))
+ordered_once d t most _ _ (refused k n fault h i x r) (refused l m fault' h' i' y r') = elim (cases_order k l) [
   | inl same ↦
-      let z = stopped_once d (power_steps t (suc k)) done other n m fault fault' s (subst (λ j. AreStopped d (power_steps t (suc j)) other m fault') (sym same) s') in
+      let s' = subst (λ j. AreStopped d (power_steps t (suc j)) (power_steps t j) m fault') (sym same) (stopped_power d t l m fault' y r') in
+      let z = stopped_once d (power_steps t (suc k)) (power_steps t k) (power_steps t k) n m fault fault' (stopped_power d t k n fault x r) s' in
       (z.1, ap (λ g. Err g) z.2)
   | inr o ↦ elim o [
-    | inl b ↦ absurd (not_stopped_before d t k l m n done fault b y s)
-    | inr b ↦ absurd (not_stopped_before d t l k n m other fault' b x s')
+    | inl b ↦ absurd (not_stopped_before d t k l m n (power_steps t k) fault b y (stopped_power d t k n fault x r))
+    | inr b ↦ absurd (not_stopped_before d t l k n m (power_steps t l) fault' b x (stopped_power d t l m fault' y r'))
   ]
 ]

@@ -14,7 +14,7 @@ use Rattle.fr_model.proofs.CodeLaws.{canonical-IsSize}
 use Rattle.fr_model.proofs.CountLaws.{HasMoreThan-lt}
 use Rattle.fr_model.proofs.LimitLaws.{nucleus_depth_once}
 use Rattle.fr_plain.specs.Steps.{Listed, AreEvaluated}
-use Rattle.fr_plain.specs.Answers.{IsListedBefore, AreMembers, nucleus_text, IsContracted, found, many_sections, passed}
+use Rattle.fr_plain.specs.Answers.{IsListedBefore, AreMembers, nucleus_text, AnswersNucleus, found, many_sections, passed}
 use Rattle.fr_plain.proofs.EndingLaws.{EndsOnce}
 
 -- ---- the order of automata
@@ -118,7 +118,7 @@ not_passed : (d : ℕ) (Q : Term → Type 0) (ms : List Term) (ps : List (List S
 not_passed d Q ms ps a few more =
     omega (arith, few, HasMoreThan-lt One (IsNucleusMember d Q) IsAlike (λ v w h. alike_sym h) (λ u v w h k. alike_trans h k) 256 (length ms) more (members_count d Q ms ps a))
 
-pub contracted_once : (d : ℕ) (gens : List Term) → EndsOnce (IsContracted d gens)
+pub contracted_once : (d : ℕ) (gens : List Term) → EndsOnce (AnswersNucleus d gens)
 contracted_once d gens _ _ (found ms ps k n few a least depth x) (found ns qs l m few' b least' depth' y) =
     let e = automata_once d (IsGeneratorSection d gens) ms ns ps qs a b in (
       charge_is_sizes d ms ps n a.count a.canonical x ∙ ap sizes e ∙ sym (charge_is_sizes d ns qs m b.count b.canonical y),

@@ -15,7 +15,7 @@ use Rattle.fr_plain.specs.BlockNames.{names_fault}
 use Rattle.fr_plain.specs.Steps.{Step}
 use Rattle.fr_plain.specs.Expansions.{Expansion, expansion, expansions, values_of_all}
 use Rattle.fr_plain.specs.Answers.{Ending}
-use Rattle.fr_plain.specs.Outcomes.{Outcome, refuse, reply, IsReply, stopped, ended, definitions, line_at, IsBlock, IsChecked, IsLet, IsStatement, IsBody, IsOutcome}
+use Rattle.fr_plain.specs.Outcomes.{Outcome, refuse, reply, IsReply, stopped, ended, name_steps, line_at, DefinesBlock, DefinesGroup, DefinesName, IsStatement, IsBody, IsOutcome}
 use Rattle.fr_plain.proofs.StepLaws.{evaluated_once, stopped_once, evaluated_not_stopped}
 use Rattle.fr_plain.proofs.EndingLaws.{EndsOnce, shown_once, counted_once, unfolded_once, classified_once, compared_once, mapped_once, ray_mapped_once, ordered_once}
 use Rattle.fr_plain.proofs.MemberLaws.{contracted_once}
@@ -63,27 +63,27 @@ reply_once line d scope steps Ends once _ _ (ended m e x y) (ended n f x' y') =
     let z = once e f y y' in
     same_reply line scope _ _ _ _ e.answer f.answer (omega (arith, evaluated_once d steps m n x x', z.0)) z.1
 
-block_once : (d : ℕ) (scope : Scope) (recursions : List Recursion) (o p : Outcome) → IsBlock d scope recursions o → IsBlock d scope recursions p → IsSameOutcome o p
-block_once d scope recursions _ _ (IsBlock.stopped done m f a) (IsBlock.stopped other n g b) =
-    let z = stopped_once d (definitions (block_system recursions) (length recursions)) done other m n f g a b in
+block_once : (d : ℕ) (scope : Scope) (recursions : List Recursion) (o p : Outcome) → DefinesBlock d scope recursions o → DefinesBlock d scope recursions p → IsSameOutcome o p
+block_once d scope recursions _ _ (DefinesBlock.stopped done m f a) (DefinesBlock.stopped other n g b) =
+    let z = stopped_once d (name_steps (block_system recursions) (length recursions)) done other m n f g a b in
     same_refusal scope done other m n _ _ z.1
     (ap (λ (k : LineFault). record { line = line_at recursions (length done); kind = k }) z.2 ∙ ap (λ (l : List Step). record { line = line_at recursions (length l); kind = g }) z.0)
-block_once d scope recursions _ _ (IsBlock.stopped done m f a) (IsBlock.binds n x) = absurd (evaluated_not_stopped d _ done n m f x a)
-block_once d scope recursions _ _ (IsBlock.binds n x) (IsBlock.stopped done m f a) = absurd (evaluated_not_stopped d _ done n m f x a)
-block_once d scope recursions _ _ (IsBlock.binds m x) (IsBlock.binds n y) =
+block_once d scope recursions _ _ (DefinesBlock.stopped done m f a) (DefinesBlock.binds n x) = absurd (evaluated_not_stopped d _ done n m f x a)
+block_once d scope recursions _ _ (DefinesBlock.binds n x) (DefinesBlock.stopped done m f a) = absurd (evaluated_not_stopped d _ done n m f x a)
+block_once d scope recursions _ _ (DefinesBlock.binds m x) (DefinesBlock.binds n y) =
     record { charge = evaluated_once d _ m n x y; text = refl; refused = refl; scope = refl }
 
-checked_once : (d : ℕ) (scope : Scope) (recursions : List Recursion) (fault : Option Fault) (o p : Outcome) → IsChecked d scope recursions fault o → IsChecked d scope recursions fault p → IsSameOutcome o p
+checked_once : (d : ℕ) (scope : Scope) (recursions : List Recursion) (fault : Option Fault) (o p : Outcome) → DefinesGroup d scope recursions fault o → DefinesGroup d scope recursions fault p → IsSameOutcome o p
 checked_once d scope recursions (Some fault) o p a b = same_outcome o p (a ∙ sym b)
 checked_once d scope recursions None o p a b = block_once d scope recursions o p a b
 
-let_once : (line d : ℕ) (scope : Scope) (name : List ℕ) (e : Expansion) (o p : Outcome) → IsLet line d scope name e o → IsLet line d scope name e p → IsSameOutcome o p
-let_once line d scope name e _ _ (IsLet.stopped done m f a) (IsLet.stopped other n g b) =
+let_once : (line d : ℕ) (scope : Scope) (name : List ℕ) (e : Expansion) (o p : Outcome) → DefinesName line d scope name e o → DefinesName line d scope name e p → IsSameOutcome o p
+let_once line d scope name e _ _ (DefinesName.stopped done m f a) (DefinesName.stopped other n g b) =
     let z = stopped_once d e.steps done other m n f g a b in
     same_refusal scope done other m n _ _ z.1 (ap (λ (k : LineFault). record { line = line; kind = k }) z.2)
-let_once line d scope name e _ _ (IsLet.stopped done m f a) (IsLet.binds n x) = absurd (evaluated_not_stopped d e.steps done n m f x a)
-let_once line d scope name e _ _ (IsLet.binds n x) (IsLet.stopped done m f a) = absurd (evaluated_not_stopped d e.steps done n m f x a)
-let_once line d scope name e _ _ (IsLet.binds m x) (IsLet.binds n y) =
+let_once line d scope name e _ _ (DefinesName.stopped done m f a) (DefinesName.binds n x) = absurd (evaluated_not_stopped d e.steps done n m f x a)
+let_once line d scope name e _ _ (DefinesName.binds n x) (DefinesName.stopped done m f a) = absurd (evaluated_not_stopped d e.steps done n m f x a)
+let_once line d scope name e _ _ (DefinesName.binds m x) (DefinesName.binds n y) =
     record { charge = evaluated_once d e.steps m n x y; text = refl; refused = refl; scope = refl }
 
 pub statement_once : (line d : ℕ) (scope : Scope) (s : Statement) (o p : Outcome) → IsStatement line d scope s o → IsStatement line d scope s p → IsSameOutcome o p

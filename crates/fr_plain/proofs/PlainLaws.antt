@@ -8,7 +8,7 @@ use Rattle.fr_plain.specs.Outcomes.{Outcome}
 use Rattle.fr_plain.specs.Plain.{AreOutcomes, text_of, charge_of, has_fault, IsPlain}
 use Rattle.fr_plain.specs.Beginnings.{ReachesCharge, PassesCharge}
 use Rattle.fr_plain.proofs.OutcomeLaws.{outcome_once}
-use Rattle.fr_plain.proofs.BeginningLaws.{reaches_le}
+use Rattle.fr_plain.proofs.BeginningLaws.{reaches_le, whole_reaches}
 
 -- two lists of outcomes write the same
 abbrev SameWhole : List Outcome → List Outcome → Type 0
@@ -40,3 +40,12 @@ passes_whole bytes text refused n limit p a =
     let e : p.script ≡ a.script = one_script bytes p.script a.script p.reads a.reads in
     let r = subst (λ (s : Script). ReachesCharge s.alphabet [] s.items p.charge) e p.reaches in
     omega (arith, p.passes, a.charge_is, reaches_le a.script.alphabet [] a.script.items p.charge a.outcomes r a.evaluates)
+
+pub whole_passes : (bytes text : List ℕ) (refused : Bool) (n limit : ℕ) → IsPlain bytes text refused n → limit < n → PassesCharge bytes limit
+whole_passes bytes text refused n limit a h = record {
+  script = a.script;
+  reads = a.reads;
+  charge = charge_of a.outcomes;
+  reaches = whole_reaches a.script.alphabet [] a.script.items a.outcomes a.evaluates;
+  passes = omega (arith, h, a.charge_is);
+}

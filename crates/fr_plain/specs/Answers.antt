@@ -18,7 +18,7 @@ use Rattle.fr_ray.specs.Rays.{RayView, IsLongImage}
 use Rattle.fr_ray.specs.Writing.{ray_text}
 use Rattle.fr_script.specs.declared.fault.LineFault.{LineFault}
 use Rattle.fr_script.specs.declared.fault.LineFault.TheVariants as f
-use Rattle.fr_plain.specs.Steps.{Step, Multiplied, Listed, AreEvaluated, AreStopped}
+use Rattle.fr_plain.specs.Steps.{Step, Multiplied, Listed, IsRefused, AreEvaluated}
 
 -- how a statement ends whose expressions are evaluated: the steps that it evaluates beside, their charge, and its text or fault
 pub record Ending : Type 0 where
@@ -39,44 +39,45 @@ abbrev pub line_of : List ℕ → List ℕ
 line_of text = text ++ 10 ∷ []
 
 -- the minimal automaton of the element, its states numbered as a breadth-first walk meets them
-pub record IsShown (d : ℕ) (t : Term) (e : Ending) : Type 0 where
+pub record AnswersShow (d : ℕ) (t : Term) (e : Ending) : Type 0 where
   pub states : List State
   pub canonical : IsCanonical d t states
   pub ends : e ≡ says (machine_text states)
 
--- how many states that has
-pub record IsCounted (d : ℕ) (t : Term) (e : Ending) : Type 0 where
+-- how many states the minimal automaton has
+pub record AnswersStates (d : ℕ) (t : Term) (e : Ending) : Type 0 where
   pub size : ℕ
   pub is_size : IsSize d t size
   pub ends : e ≡ says (line_of (decimal size))
 
--- the first of its states
-pub record IsUnfolded (d : ℕ) (t : Term) (e : Ending) : Type 0 where
+-- the first state of the minimal automaton
+pub record AnswersWreath (d : ℕ) (t : Term) (e : Ending) : Type 0 where
   pub states : List State
   pub canonical : IsCanonical d t states
   pub ends : e ≡ says (line_of (wreath_text (state_at states 0)))
 
 -- how the activity of the element grows
-pub record IsClassified (d : ℕ) (t : Term) (e : Ending) : Type 0 where
+pub record AnswersClass (d : ℕ) (t : Term) (e : Ending) : Type 0 where
   pub class : Class
   pub is_class : IsClass d t class
   pub ends : e ≡ says (line_of (class_text class))
 
--- equal, or the shortlex least word that two elements send to different words, and these
+-- `equal`, or the shortlex least word at which the images differ, and both images
 abbrev pub comparison_text : Term → Term → Option (List ℕ) → List ℕ
 comparison_text t u None = codes "equal"
 comparison_text t u (Some w) = codes "differ at " ++ word_text w ++ codes ": " ++ word_text (act t w) ++ codes " / " ++ word_text (act u w)
 
-pub record IsCompared (d : ℕ) (t u : Term) (e : Ending) : Type 0 where
+-- whether two elements are equal
+pub record AnswersEq (d : ℕ) (t u : Term) (e : Ending) : Type 0 where
   pub found : Option (List ℕ)
   pub separates : IsSeparation d t u found
   pub ends : e ≡ says (line_of (comparison_text t u found))
 
 -- the image of a word
-abbrev pub IsMapped : Term → List ℕ → Ending → Type 0
-IsMapped t w e = e ≡ says (line_of (word_text (act t w)))
+abbrev pub AnswersAct : Term → List ℕ → Ending → Type 0
+AnswersAct t w e = e ≡ says (line_of (word_text (act t w)))
 
--- the canonical form of a ray, of at most 4,096 letters
+-- the text of the canonical image, where that has at most 4,096 letters
 pub record IsShortImage (d : ℕ) (t : Term) (ray : RayView) (text : List ℕ) : Type 0 where
   pub image : RayView
   pub canonical : IsCanonicalRay d image.before image.period
@@ -85,8 +86,8 @@ pub record IsShortImage (d : ℕ) (t : Term) (ray : RayView) (text : List ℕ) :
   pub text_is : text ≡ ray_text image
 
 -- the image of a ray, or that it has more letters
-abbrev pub IsRayMapped : ℕ → Term → RayView → Ending → Type 0
-IsRayMapped d t ray e = ((text : List ℕ) × IsShortImage d t ray text × (e ≡ says (line_of text))) ⊎ (IsLongImage d t ray × (e ≡ fails f.RayPassed))
+abbrev pub AnswersRay : ℕ → Term → RayView → Ending → Type 0
+AnswersRay d t ray e = ((text : List ℕ) × IsShortImage d t ray text × (e ≡ says (line_of text))) ⊎ (IsLongImage d t ray × (e ≡ fails f.RayPassed))
 
 -- the power of an element with the exponent k + 1, multiplied from the left
 abbrev pub power : Term → ℕ → Term
@@ -103,19 +104,18 @@ abbrev pub HasNoOrder : Term → ℕ → Type 0
 HasNoOrder t k = (j : ℕ) → j < k → ¬ IsAlike (power t j) One
 
 -- the powers of the element one after the other, until one is the identity, and at most as many as the bound says
-pub data IsOrdered (d : ℕ) (t : Term) (bound : ℕ) : Ending → Type 0 where
+pub data AnswersOrder (d : ℕ) (t : Term) (bound : ℕ) : Ending → Type 0 where
   -- the power with the exponent k + 1 is the first that is the identity
   found : (k n : ℕ) → k < bound → HasNoOrder t k → IsAlike (power t k) One → AreEvaluated d (power_steps t k) n
-      → IsOrdered d t bound (record { steps = power_steps t k; charge = n; answer = Ok (line_of (decimal (suc k))) })
-  -- no exponent was asked for
-  none : bound ≡ 0 → IsOrdered d t bound (says (line_of (codes "passes " ++ decimal 0)))
+      → AnswersOrder d t bound (record { steps = power_steps t k; charge = n; answer = Ok (line_of (decimal (suc k))) })
+  -- the bound is 0
+  none : bound ≡ 0 → AnswersOrder d t bound (says (line_of (codes "passes " ++ decimal 0)))
   -- none up to the bound is the identity
   passed : (k n : ℕ) → bound ≡ suc k → HasNoOrder t bound → AreEvaluated d (power_steps t k) n
-      → IsOrdered d t bound (record { steps = power_steps t k; charge = n; answer = Ok (line_of (codes "passes " ++ decimal bound)) })
-  -- a product that would come before is refused
-  refused : (k n : ℕ) (done : List Step) (fault : LineFault) → suc k < bound → HasNoOrder t (suc k)
-      → AreEvaluated d (power_steps t k) n → done ≡ power_steps t k → AreStopped d (power_steps t (suc k)) done n fault
-      → IsOrdered d t bound (record { steps = done; charge = n; answer = Err fault })
+      → AnswersOrder d t bound (record { steps = power_steps t k; charge = n; answer = Ok (line_of (codes "passes " ++ decimal bound)) })
+  -- the next power is refused before one is the identity
+  refused : (k n : ℕ) (fault : LineFault) → suc k < bound → HasNoOrder t (suc k) → AreEvaluated d (power_steps t k) n → IsRefused d (Multiplied (power t k) t) fault
+      → AnswersOrder d t bound (record { steps = power_steps t k; charge = n; answer = Err fault })
 
 -- an automaton before another: by the number of its states, then by its code
 abbrev pub IsListedBefore : List State → List State → Type 0
@@ -134,6 +134,7 @@ abbrev pub elements_text : ℕ → List (List State) → List ℕ
 elements_text i [] = []
 elements_text i (qs ∷ rest) = line_of (codes "element " ++ decimal i) ++ machine_text qs ++ elements_text (suc i) rest
 
+-- the number of members and the depth, and the members
 abbrev pub nucleus_text : List (List State) → ℕ → List ℕ
 nucleus_text automata depth = line_of (codes "nucleus " ++ decimal (length automata) ++ codes " depth " ++ decimal depth) ++ elements_text 1 automata
 
@@ -142,10 +143,10 @@ abbrev pub HasFewSections : ℕ → List Term → Type 0
 HasFewSections d gens = ¬ HasMoreThan (IsGeneratorSection d gens) IsAlike 64
 
 -- the nucleus of the group that the elements generate: its depth and its members, or why it is not given
-pub data IsContracted (d : ℕ) (gens : List Term) : Ending → Type 0 where
+pub data AnswersNucleus (d : ℕ) (gens : List Term) : Ending → Type 0 where
   found : (members : List Term) (automata : List (List State)) (depth n : ℕ) → HasFewSections d gens
       → AreMembers d (IsGeneratorSection d gens) members automata → length members ≤ 256
       → IsNucleusDepth d (IsGeneratorSection d gens) depth → AreEvaluated d (map Listed members) n
-      → IsContracted d gens (record { steps = map Listed members; charge = n; answer = Ok (nucleus_text automata depth) })
-  many_sections : HasMoreThan (IsGeneratorSection d gens) IsAlike 64 → IsContracted d gens (fails f.TooManySections)
-  passed : HasFewSections d gens → HasMoreThan (IsNucleusMember d (IsGeneratorSection d gens)) IsAlike 256 → IsContracted d gens (fails f.NucleusPassed)
+      → AnswersNucleus d gens (record { steps = map Listed members; charge = n; answer = Ok (nucleus_text automata depth) })
+  many_sections : HasMoreThan (IsGeneratorSection d gens) IsAlike 64 → AnswersNucleus d gens (fails f.TooManySections)
+  passed : HasFewSections d gens → HasMoreThan (IsNucleusMember d (IsGeneratorSection d gens)) IsAlike 256 → AnswersNucleus d gens (fails f.NucleusPassed)

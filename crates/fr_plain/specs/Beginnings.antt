@@ -15,13 +15,13 @@ use Rattle.fr_plain.specs.Blocks.{block_system}
 use Rattle.fr_plain.specs.BlockNames.{names_fault}
 use Rattle.fr_plain.specs.Steps.{Step, AreEvaluated}
 use Rattle.fr_plain.specs.Expansions.{expansion, expansions, steps_of_all, values_of_all}
-use Rattle.fr_plain.specs.Answers.{Ending, power_steps, HasNoOrder, IsContracted}
-use Rattle.fr_plain.specs.Outcomes.{Outcome, IsOutcome, definitions}
+use Rattle.fr_plain.specs.Answers.{Ending, power_steps, HasNoOrder, AnswersNucleus}
+use Rattle.fr_plain.specs.Outcomes.{Outcome, IsOutcome, name_steps}
 
 -- the steps of a block, if no name of it is at fault
 abbrev pub block_steps : List Recursion → Option Fault → List Step
 block_steps recursions (Some fault) = []
-block_steps recursions None = definitions (block_system recursions) (length recursions)
+block_steps recursions None = name_steps (block_system recursions) (length recursions)
 
 -- the steps that a statement is sure to make, as far as none is refused: those of its names or expressions
 abbrev pub statement_steps : Scope → Statement → List Step
@@ -48,7 +48,7 @@ pub record AreFirstPowers (d : ℕ) (t : Term) (bound : ℕ) (steps : List Step)
 -- the first members of a nucleus
 pub record AreFirstMembers (d : ℕ) (gens : List Term) (steps : List Step) : Type 0 where
   pub ending : Ending
-  pub contracts : IsContracted d gens ending
+  pub contracts : AnswersNucleus d gens ending
   pub rest : List Step
   pub begins : ending.steps ≡ steps ++ rest
 
@@ -59,10 +59,10 @@ AreFirstBeside d scope (st.NucleusOf es) steps = AreFirstMembers d (values_of_al
 AreFirstBeside d scope _ steps = steps ≡ []
 
 -- first steps that a statement evaluates, and their charge
-pub data AreFirst (d : ℕ) (scope : Scope) (s : Statement) : List Step → ℕ → Type 0 where
-  within : (done rest : List Step) (n : ℕ) → statement_steps scope s ≡ done ++ rest → AreEvaluated d done n → AreFirst d scope s done n
+pub data AreFirstSteps (d : ℕ) (scope : Scope) (s : Statement) : List Step → ℕ → Type 0 where
+  within : (done rest : List Step) (n : ℕ) → statement_steps scope s ≡ done ++ rest → AreEvaluated d done n → AreFirstSteps d scope s done n
   beside : (more : List Step) (n : ℕ) → AreFirstBeside d scope s more → AreEvaluated d (statement_steps scope s ++ more) n
-      → AreFirst d scope s (statement_steps scope s ++ more) n
+      → AreFirstSteps d scope s (statement_steps scope s ++ more) n
 
 -- a statement that asks, and binds nothing
 abbrev pub IsAsk : Statement → Type 0
@@ -71,13 +71,13 @@ IsAsk (st.Group recursions) = ⊥
 IsAsk (st.Let name e) = ⊥
 IsAsk _ = Unit {0}
 
--- first steps that items evaluate are charged so much: of each item all its steps or some first ones, and none behind a
--- definition of which only some are counted
+-- so much is charged for some evaluated steps: of each ask some first ones, of each definition all, up to one of which
+-- only some first ones count and below which nothing does
 pub data ReachesCharge (d : ℕ) : Scope → List Item → ℕ → Type 0 where
   stops : (scope : Scope) (items : List Item) → ReachesCharge d scope items 0
-  begins : (scope : Scope) (line : ℕ) (s : Statement) (items : List Item) (steps : List Step) (n : ℕ) → AreFirst d scope s steps n
+  begins : (scope : Scope) (line : ℕ) (s : Statement) (items : List Item) (steps : List Step) (n : ℕ) → AreFirstSteps d scope s steps n
       → ReachesCharge d scope (record { line = line; body = b.Says s } ∷ items) n
-  asks : (scope : Scope) (line : ℕ) (s : Statement) (items : List Item) (steps : List Step) (m n : ℕ) → IsAsk s → AreFirst d scope s steps m → ReachesCharge d scope items n
+  asks : (scope : Scope) (line : ℕ) (s : Statement) (items : List Item) (steps : List Step) (m n : ℕ) → IsAsk s → AreFirstSteps d scope s steps m → ReachesCharge d scope items n
       → ReachesCharge d scope (record { line = line; body = b.Says s } ∷ items) (m + n)
   goes_on : (scope : Scope) (item : Item) (items : List Item) (o : Outcome) (n : ℕ) → IsOutcome d scope item o → ReachesCharge d o.scope items n
       → ReachesCharge d scope (item ∷ items) (o.charge + n)

@@ -10,12 +10,12 @@ use Rattle.fr_syntax.specs.declared.statement.SecName.{SecName}
 abbrev pub names_of : List Recursion → List (List ℕ)
 names_of recursions = map (λ r. r.name) recursions
 
--- the place of a name among names, from 0
+-- the first place of a name among names, from 0
 abbrev pub place_of : List (List ℕ) → List ℕ → Option ℕ
 place_of [] name = None
 place_of (n ∷ ns) name = if bytes_eq n name then Some 0 else option_map suc (place_of ns name)
 
--- a name of a section, or its inverse, as a factor; a name that stands nowhere lies past the table
+-- a name of a section, or its inverse, as a factor; a name that stands nowhere is no name of the system
 abbrev pub factor_of : List (List ℕ) → SecName → Factor
 factor_of names s = record { name = unwrap_or (place_of names s.name) (length names); inverse = s.inverse }
 

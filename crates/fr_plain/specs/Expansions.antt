@@ -12,12 +12,12 @@ use Rattle.fr_syntax.specs.declared.tree.Atom.TheOpen as layer
 use Rattle.fr_plain.specs.Scopes.{Scope, bound}
 use Rattle.fr_plain.specs.Steps.{Step, Looked, Identity, Inverted, Multiplied, Restricted, value_of}
 
--- steps, and the element that is there after them
+-- steps, and the element that an expression with these steps stands for
 pub record Expansion : Type 0 where
   pub steps : List Step
   pub value : Term
 
--- an element that is there already
+-- no step, and this element
 abbrev pub given : Term → Expansion
 given t = record { steps = []; value = t }
 
@@ -25,13 +25,15 @@ given t = record { steps = []; value = t }
 abbrev pub step : Step → Expansion
 step s = record { steps = s ∷ []; value = value_of s }
 
--- the steps of the first, and then those that its element goes on with
-abbrev pub go_on : Expansion → (Term → Expansion) → Expansion
-go_on e next = record { steps = e.steps ++ (next e.value).steps; value = (next e.value).value }
+-- the steps of the first, then those that are made from its element
+abbrev pub followed_by : Expansion → (Term → Expansion) → Expansion
+followed_by e next = record { steps = e.steps ++ (next e.value).steps; value = (next e.value).value }
 
+-- the inverse, in one step
 abbrev pub inverse_of : Term → Expansion
 inverse_of t = step (Inverted t)
 
+-- the product, in one step
 abbrev pub product_of : Term → Term → Expansion
 product_of t u = step (Multiplied t u)
 
@@ -41,8 +43,9 @@ abbrev pub power_within : ℕ → Term → ℕ → Expansion
 power_within zero t k = given t
 power_within (suc fuel) t k =
     if nat_le k 1 then given t
-    else go_on (power_within fuel t (k / 2)) (λ p. go_on (product_of p p) (λ q. if k % 2 == 0 then given q else product_of q t))
+    else followed_by (power_within fuel t (k / 2)) (λ p. followed_by (product_of p p) (λ q. if k % 2 == 0 then given q else product_of q t))
 
+-- the power k > 0 by squaring
 abbrev pub power_of : Term → ℕ → Expansion
 power_of t k = power_within k t k
 
@@ -50,47 +53,50 @@ power_of t k = power_within k t k
 abbrev pub signed_power : Bool → ℕ → Term → Expansion
 signed_power negative k t =
     if k == 0 then step Identity
-    else if negative then go_on (inverse_of t) (λ g. power_of g k)
+    else if negative then followed_by (inverse_of t) (λ g. power_of g k)
     else power_of t k
 
 -- t^u = u^-1*t*u
 abbrev pub conjugate_of : Term → Term → Expansion
-conjugate_of t u = go_on (inverse_of u) (λ g. go_on (product_of g t) (λ p. product_of p u))
+conjugate_of t u = followed_by (inverse_of u) (λ g. followed_by (product_of g t) (λ p. product_of p u))
 
 -- [t,u] = t^-1*u^-1*t*u
 abbrev pub commutator_of : Term → Term → Expansion
-commutator_of t u = go_on (inverse_of t) (λ g. go_on (inverse_of u) (λ h. go_on (product_of g h) (λ p. go_on (product_of p t) (λ q. product_of q u))))
+commutator_of t u = followed_by (inverse_of t) (λ g. followed_by (inverse_of u) (λ h. followed_by (product_of g h) (λ p. followed_by (product_of p t) (λ q. product_of q u))))
 
 -- an atom, whose parts stand for these
 abbrev pub atom_layer : Scope → Atom-F Expansion (Term → Expansion) Expansion Expansion → Expansion
 atom_layer scope layer.One = step Identity
 atom_layer scope (layer.Named name) = step (Looked (bound scope name))
 atom_layer scope (layer.Paren e) = e
-atom_layer scope (layer.Comm left right) = go_on left (λ t. go_on right (λ u. commutator_of t u))
+atom_layer scope (layer.Comm left right) = followed_by left (λ t. followed_by right (λ u. commutator_of t u))
 
 -- what an operation makes of an element
 abbrev pub op_layer : Op-F Expansion (Term → Expansion) Expansion Expansion → Term → Expansion
 op_layer (layer.Power negative k) t = signed_power negative k t
-op_layer (layer.Conj a) t = go_on a (λ u. conjugate_of t u)
+op_layer (layer.Conj a) t = followed_by a (λ u. conjugate_of t u)
 op_layer (layer.At w) t = step (Restricted t w)
 
 -- operations, from left to right
 abbrev pub operations : Expansion → List (Term → Expansion) → Expansion
 operations e [] = e
-operations e (op ∷ ops) = operations (go_on e op) ops
+operations e (op ∷ ops) = operations (followed_by e op) ops
 
+-- a factor, whose parts stand for these
 abbrev pub factor_layer : Factor-F Expansion (Term → Expansion) Expansion Expansion → Expansion
 factor_layer f = operations f.atom f.ops
 
 -- factors, from left to right: each is multiplied as soon as it is there
 abbrev pub factors_from : Expansion → List Expansion → Expansion
 factors_from e [] = e
-factors_from e (f ∷ fs) = factors_from (go_on e (λ t. go_on f (λ u. product_of t u))) fs
+factors_from e (f ∷ fs) = factors_from (followed_by e (λ t. followed_by f (λ u. product_of t u))) fs
 
+-- a product of factors; there is at least one
 abbrev pub product_of_all : List Expansion → Expansion
 product_of_all [] = given One
 product_of_all (f ∷ fs) = factors_from f fs
 
+-- an expression, whose factors stand for these
 abbrev pub expr_layer : Expr-F Expansion (Term → Expansion) Expansion Expansion → Expansion
 expr_layer e = product_of_all e.factors
 
@@ -113,10 +119,12 @@ abbrev pub expansions : Scope → List Expr → List Expansion
 expansions scope [] = []
 expansions scope (e ∷ es) = expansion scope e ∷ expansions scope es
 
+-- the steps of all, one after the other
 abbrev pub steps_of_all : List Expansion → List Step
 steps_of_all [] = []
 steps_of_all (e ∷ es) = e.steps ++ steps_of_all es
 
+-- the element of each
 abbrev pub values_of_all : List Expansion → List Term
 values_of_all [] = []
 values_of_all (e ∷ es) = e.value ∷ values_of_all es

@@ -6,16 +6,17 @@ use Rattle.fr_plain.specs.Outcomes.{Outcome, IsOutcome}
 use Rattle.fr_plain.specs.Plain.{IsPlain}
 use Rattle.fr_plain.specs.Beginnings.{PassesCharge}
 
--- an item has one outcome, up to the terms of the members of a nucleus
+-- an item has one text, one charge and one end, and leaves one list of bindings
 pub record OutcomesAreDetermined : Type 0 where
   pub one_text : (d : ℕ) (scope : Scope) (item : Item) (o p : Outcome) → IsOutcome d scope item o → IsOutcome d scope item p → o.text ≡ p.text
   pub one_charge : (d : ℕ) (scope : Scope) (item : Item) (o p : Outcome) → IsOutcome d scope item o → IsOutcome d scope item p → o.charge ≡ p.charge
   pub one_end : (d : ℕ) (scope : Scope) (item : Item) (o p : Outcome) → IsOutcome d scope item o → IsOutcome d scope item p → o.refused ≡ p.refused
   pub one_scope : (d : ℕ) (scope : Scope) (item : Item) (o p : Outcome) → IsOutcome d scope item o → IsOutcome d scope item p → o.scope ≡ p.scope
 
--- bytes write one text, with one charge; where some first steps are charged more than a limit, so is the whole
+-- bytes write one text, with one charge; this is more than a limit exactly where some first steps are charged more
 pub record PlainIsDetermined : Type 0 where
   pub one_text : (bytes text other : List ℕ) (refused faulty : Bool) (m n : ℕ) → IsPlain bytes text refused m → IsPlain bytes other faulty n → text ≡ other
   pub one_end : (bytes text other : List ℕ) (refused faulty : Bool) (m n : ℕ) → IsPlain bytes text refused m → IsPlain bytes other faulty n → refused ≡ faulty
   pub one_charge : (bytes text other : List ℕ) (refused faulty : Bool) (m n : ℕ) → IsPlain bytes text refused m → IsPlain bytes other faulty n → m ≡ n
   pub passes : (bytes text : List ℕ) (refused : Bool) (n limit : ℕ) → PassesCharge bytes limit → IsPlain bytes text refused n → limit < n
+  pub reaches : (bytes text : List ℕ) (refused : Bool) (n limit : ℕ) → IsPlain bytes text refused n → limit < n → PassesCharge bytes limit

@@ -32,8 +32,8 @@ abbrev pub has_fault : List Outcome → Bool
 has_fault [] = false
 has_fault (o ∷ os) = o.refused || has_fault os
 
--- the bytes write a script whose items have these texts, one after the other, and this charge together; `refused` says
--- whether one of them has a fault. No name is bound above the first line
+-- the bytes write a script whose items have these texts, which stand one after the other in `text`, and this charge
+-- together; `refused` says whether one of them has a fault. No name is bound above the first line
 pub record IsPlain (bytes text : List ℕ) (refused : Bool) (charge : ℕ) : Type 0 where
   pub script : Script
   pub reads : IsScript bytes script

@@ -70,7 +70,7 @@ abbrev pub AreEvaluated : ℕ → List Step → ℕ → Type 0
 AreEvaluated d [] n = n ≡ 0
 AreEvaluated d (s ∷ ss) n = (a : ℕ) × (b : ℕ) × IsCharged d s a × AreEvaluated d ss b × (n ≡ a + b)
 
--- of these steps some first ones are evaluated, and the next one is refused
+-- some first ones of these steps are evaluated, which are charged n together, and the next one is refused with the fault
 pub record AreStopped (d : ℕ) (steps done : List Step) (n : ℕ) (fault : LineFault) : Type 0 where
   pub next : Step
   pub rest : List Step
