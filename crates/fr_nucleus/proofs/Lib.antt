@@ -1,0 +1,16 @@
+pub mod Pigeons
+pub mod NucleusTables
+pub mod LimitLaws
+pub mod NucleusLaws
+pub mod NextLaws
+pub mod JoiningLaws
+pub mod ProductLaws
+pub mod ListLaws
+pub mod SectionLaws
+pub mod CodingLaws
+pub mod DepthLaws
+pub mod GeneratorLaws
+pub mod NumberingLaws
+pub mod GrowthLaws
+pub mod SortingLaws
+pub mod AnswerLaws

@@ -1,0 +1,6 @@
+use Rattle.std.proofs.Common.{◌≡◌, ◌+◌, get_or}
+use Rattle.fr_nucleus.proofs.NextLaws.{IsFilling}
+use Rattle.fr_nucleus.proofs.joining.shifted.Given as goal
+
+abbrev pub invariant-loop-x : goal.invariant-loop-x
+invariant-loop-x l = IsFilling (λ y n. n ≡ get_or l.row.next y 0 + l.first) l.next l.x

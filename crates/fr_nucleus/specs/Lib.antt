@@ -1,0 +1,10 @@
+pub mod Elements
+pub mod Faults
+pub mod Orders
+pub mod Rows
+pub mod Joining
+pub mod Products
+pub mod Numberings
+pub mod Depths
+pub mod Nuclei
+pub mod Coding
