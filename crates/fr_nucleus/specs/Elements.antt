@@ -1,5 +1,5 @@
--- The elements of minimal machines, and the group of some of them as generators (Nekrashevych, Self-Similar Groups,
--- chapter 2).
+-- The elements of minimal machines, and the self-similar group of some of them (Nekrashevych, Self-Similar Groups, chapter
+-- 2).
 use Rattle.std.specs.Prelude.{ℕ, ◌≡◌, List, [], ◌∷◌, map}
 use Rattle.std.specs.List.{All}
 use Rattle.fr_model.specs.Terms.{Term, IsAlike}
@@ -29,7 +29,7 @@ AreOver d ms = All (λ m. m.alphabet ≡ d) ms
 abbrev pub IsSectionOf : List MachineView → Term → Type 0
 IsSectionOf gens = IsGeneratorSection (alphabet_of gens) (elements_of gens)
 
--- the limit sections of products of these, and of a limit section with one of these
+-- the limit sections of these, and those of products of such a member and one of these
 abbrev pub IsMemberOf : List MachineView → Term → Type 0
 IsMemberOf gens = IsNucleusMember (alphabet_of gens) (IsSectionOf gens)
 

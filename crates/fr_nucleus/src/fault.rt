@@ -10,7 +10,7 @@ pub enum NucleusFault {
     /// The identity and the sections of the generators and of their inverses are more than 64 elements.
     #[error("more than 64 sections")]
     TooManySections,
-    /// The group has no nucleus of at most so many elements.
+    /// The self-similar group of the generators has no nucleus of at most so many elements.
     #[error("no nucleus of at most {0} elements")]
     Passes(u16),
     /// Memory ran out.

@@ -17,13 +17,14 @@ use crate::sections::generator_sections;
 use fr_machine::Minimal;
 use std::alloc::Global;
 
-/// The nucleus of the group that the elements of `gens` generate, where it has at most `most` members (Nekrashevych,
-/// *Self-Similar Groups*, chapter 2; the limits are this project's own). There is at least one generator, all are over one
-/// alphabet, and `most` is in 1..=256.
+/// The nucleus of the smallest self-similar group that holds the elements of `gens`, where it has at most `most` members
+/// (Nekrashevych, *Self-Similar Groups*, chapter 2; the limits and the depth are this project's own). That group is generated
+/// by the generators and all their sections; where these are products of the generators and their inverses, it is the group
+/// that the generators generate. There is at least one generator, all are over one alphabet, and `most` is in 1..=256.
 ///
-/// The members are the limit sections of products: the sections of a product of a member and a section of a generator, or
-/// of an inverse of one, that occur at words of unbounded length. They are given once each up to acting alike, by size and
-/// then by code, with their rows in canonical order.
+/// The members are the least set that holds the identity and, with each of its elements g and each section q of a generator
+/// or of an inverse of one, the sections of the product of g and q that occur at words of unbounded length. They are given
+/// once each up to acting alike, by size and then by code, with their rows in canonical order.
 ///
 /// Errors: `TooManySections` exactly where the identity, the sections of the generators and those of their inverses are more
 /// than 64 elements; else `Passes(most)` exactly where there are more than `most` members; and want of memory, in place of
@@ -48,6 +49,7 @@ pub fn nucleus(alloc: Global, gens: &[Minimal], most: u16) -> Result<Nucleus, Nu
     // Each refusal comes exactly where its cause holds, up to want of memory.
     ensures sections { OnOk result (¬ HasMoreSections gens.now 64) }
     ensures within { OnOk result (¬ HasMoreMembers gens.now most) }
+    ensures few { IfOk result (λ n. length n.members ≤ most) }
     ensures err { IfErr result (λ e. IsNucleusFault gens.now most e) }
 {
     let sections = generator_sections(alloc, gens)?;

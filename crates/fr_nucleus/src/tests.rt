@@ -1,4 +1,4 @@
-//! The nuclei of groups that every text begins with.
+//! The nuclei of a few groups, most of them well known.
 
 ghost use Rattle.std.specs.Prelude.{◌≡◌, IfOk, length};
 ghost use Rattle.fr_nucleus.specs.Elements.{alphabet_of, AreOver};

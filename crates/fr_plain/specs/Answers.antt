@@ -142,7 +142,8 @@ nucleus_text automata depth = line_of (codes "nucleus " ++ decimal (length autom
 abbrev pub HasFewSections : ℕ → List Term → Type 0
 HasFewSections d gens = ¬ HasMoreThan (IsGeneratorSection d gens) IsAlike 64
 
--- the nucleus of the group that the elements generate: its depth and its members, or why it is not given
+-- the nucleus of the group that the elements and all their sections generate: its depth and its members, or why it is not
+-- given
 pub data AnswersNucleus (d : ℕ) (gens : List Term) : Ending → Type 0 where
   found : (members : List Term) (automata : List (List State)) (depth n : ℕ) → HasFewSections d gens
       → AreMembers d (IsGeneratorSection d gens) members automata → length members ≤ 256
