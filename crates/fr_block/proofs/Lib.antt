@@ -1,0 +1,6 @@
+mod ReductionLaws
+mod BlockLaws
+mod WordLaws
+mod ClosureLaws
+mod NameLaws
+mod ElementLaws
