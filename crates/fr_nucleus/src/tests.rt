@@ -79,11 +79,10 @@ fn text_of(alloc: Global, elements: &[Minimal]) -> Result<Vec<u8>, NoMemory> {
 }
 
 #[test]
-fn known_groups_have_their_nuclei(rt: HostRuntime) -> Result<(), Fail> {
+fn groups_over_two_letters_have_their_nuclei(rt: HostRuntime) -> Result<(), Fail> {
     let alloc = rt.alloc();
     let stay: &[u8] = &[1, 2];
     let swap: &[u8] = &[2, 1];
-    let stay3: &[u8] = &[1, 2, 3];
     // The adding machine t, 1 and the inverse of t.
     let adding: &[Given<'_>] = &[(swap, &[1, 0]), (stay, &[1, 1]), (swap, &[2, 1])];
     // Rows a, b, c, d and 1 of Grigorchuk's group.
@@ -104,37 +103,55 @@ fn known_groups_have_their_nuclei(rt: HostRuntime) -> Result<(), Fail> {
         (swap, &[2, 6]),
         (swap, &[5, 2]),
     ];
+    // An element that is its own section, and 1.
+    let constant: &[Given<'_>] = &[(swap, &[0, 0]), (stay, &[1, 1])];
+    // An element whose sections are 1, and 1.
+    let finite: &[Given<'_>] = &[(swap, &[1, 1]), (stay, &[1, 1])];
+    let cases: [(&[Given<'_>], &[u16], &[u16], u32); 6] = [
+        (adding, &[0], &[1, 2, 0], 1),
+        (grigorchuk, &[0, 1, 2, 3], &[4, 0, 3, 1, 2], 1),
+        (basilica, &[0, 1], &[2, 3, 0, 1, 5, 4, 6], 2),
+        (constant, &[0], &[1, 0], 0),
+        (finite, &[0], &[1], 1),
+        (finite, &[1], &[1], 0),
+    ];
+    for (given, gens, members, depth) in cases {
+        let m = machine_of(alloc, 2, given)?;
+        let gens = elements(alloc, &m, gens)?;
+        assert!(rt; !gens.is_empty());
+        let found = nucleus(alloc, &gens, 256)?;
+        assert_eq!(rt; found.depth, depth);
+        let wanted = text_of(alloc, &elements(alloc, &m, members)?)?;
+        assert_eq!(rt; text_of(alloc, &found.members)?, wanted);
+    }
+    Ok(())
+}
+
+#[test]
+fn groups_over_three_letters_have_their_nuclei(rt: HostRuntime) -> Result<(), Fail> {
+    let alloc = rt.alloc();
+    let stay: &[u8] = &[1, 2, 3];
     // The towers of Hanoi over three pegs, and 1.
     let hanoi: &[Given<'_>] = &[
         (&[2, 1, 3], &[3, 3, 0]),
         (&[3, 2, 1], &[3, 1, 3]),
         (&[1, 3, 2], &[2, 3, 3]),
-        (stay3, &[3, 3, 3]),
+        (stay, &[3, 3, 3]),
     ];
     // The group of Gupta and Sidki over three letters: a, t = <a,a^-1,t>, 1, the inverse of a and that of t.
     let gupta_sidki: &[Given<'_>] = &[
         (&[2, 3, 1], &[2, 2, 2]),
-        (stay3, &[0, 3, 1]),
-        (stay3, &[2, 2, 2]),
+        (stay, &[0, 3, 1]),
+        (stay, &[2, 2, 2]),
         (&[3, 1, 2], &[2, 2, 2]),
-        (stay3, &[3, 0, 4]),
+        (stay, &[3, 0, 4]),
     ];
-    // An element that is its own section, and 1.
-    let constant: &[Given<'_>] = &[(swap, &[0, 0]), (stay, &[1, 1])];
-    // An element whose sections are 1, and 1.
-    let finite: &[Given<'_>] = &[(swap, &[1, 1]), (stay, &[1, 1])];
-    let cases: [(u8, &[Given<'_>], &[u16], &[u16], u32); 8] = [
-        (2, adding, &[0], &[1, 2, 0], 1),
-        (2, grigorchuk, &[0, 1, 2, 3], &[4, 0, 3, 1, 2], 1),
-        (2, basilica, &[0, 1], &[2, 3, 0, 1, 5, 4, 6], 2),
-        (3, hanoi, &[0, 1, 2], &[3, 2, 0, 1], 1),
-        (3, gupta_sidki, &[0, 1], &[2, 0, 3, 1, 4], 1),
-        (2, constant, &[0], &[1, 0], 0),
-        (2, finite, &[0], &[1], 1),
-        (2, finite, &[1], &[1], 0),
+    let cases: [(&[Given<'_>], &[u16], &[u16], u32); 2] = [
+        (hanoi, &[0, 1, 2], &[3, 2, 0, 1], 1),
+        (gupta_sidki, &[0, 1], &[2, 0, 3, 1, 4], 1),
     ];
-    for (d, given, gens, members, depth) in cases {
-        let m = machine_of(alloc, d, given)?;
+    for (given, gens, members, depth) in cases {
+        let m = machine_of(alloc, 3, given)?;
         let gens = elements(alloc, &m, gens)?;
         assert!(rt; !gens.is_empty());
         let found = nucleus(alloc, &gens, 256)?;
