@@ -10,13 +10,10 @@ use Rattle.fr_model.specs.Systems.{Factor, System, product_output, product_secti
 use Rattle.fr_machine.specs.declared.row.Row.{Row}
 use Rattle.fr_model.specs.FreeWords.{reduced, section_word, IsSectionWord}
 use Rattle.fr_model.proofs.TermLaws.{IsWord-append}
+use Rattle.fr_model.proofs.FreeWordLaws.{section_word-append}
 use Rattle.fr_block.specs.Blocks.{AreNames}
 use Rattle.fr_block.specs.Closures.{IsWordOf, AreClosuresPassed, IsNumbered, IsPassed, Extends, AreWords, IsRowPart, IsRowMade, IsRowPassed, AreNameWords, one_name}
 use Rattle.std.specs.Prelude.{MatchOption}
-
-section_word-append : (s : System) (fs : List Factor) (v : List ℕ) (x : ℕ) → section_word s fs (v ++ x ∷ []) ≡ reduced (product_section s (section_word s fs v) x)
-section_word-append s fs [] x = refl
-section_word-append s fs (y ∷ v) x = section_word-append s (reduced (product_section s fs y)) v x
 
 -- a section of a section word is one
 pub IsSectionWord-next : (d : ℕ) (s : System) (n x : ℕ) (fs : List Factor) → IsLetter d x → IsSectionWord d s n fs → IsSectionWord d s n (reduced (product_section s fs x))

@@ -11,21 +11,7 @@ use Rattle.fr_model.specs.FreeWords.{differ, cancel, cons_reduced, reduced, IsRe
 use Rattle.fr_block.specs.Blocks.{AreNames, ends_against, factor_of, product_of}
 use Rattle.fr_block.specs.declared.block.Factor.{Factor as Member}
 use Rattle.fr_model.proofs.SystemLaws.{product_output-append, product_section-append}
-use Rattle.fr_model.proofs.FreeWordLaws.{IsReduced-reduced, reduced-kept, reduced-cancels}
-
--- two that cancel are inverse to each other
-pub inverse_from : (f g : Factor) → cancel f g ≡ true → g ≡ inverse_factor f
-inverse_from f g h =
-    let p = and_parts (eqb f.name g.name) (differ f.inverse g.inverse) h in
-    let n = eqb-true f.name g.name p.0 in
-    let b = opposite f.inverse g.inverse p.1 in
-    rw (n, ← b)
-  where
-    opposite : (a b : Bool) → differ a b ≡ true → b ≡ not a
-    opposite true true h = cc
-    opposite true false h = refl
-    opposite false true h = refl
-    opposite false false h = cc
+use Rattle.fr_model.proofs.FreeWordLaws.{inverse_from, IsReduced-reduced, reduced-kept, reduced-cancels, reduced-reduced_append}
 
 IsReduced-prefix : (vs gs : List Factor) → IsReduced (vs ++ gs) → IsReduced vs
 IsReduced-prefix [] gs h = tt
@@ -55,20 +41,6 @@ reduced-pop vs g f h last =
 -- another member is kept
 pub reduced-push : (vs : List Factor) (f : Factor) → IsReduced vs → ends_against vs f ≡ false → reduced (vs ++ f ∷ []) ≡ vs ++ f ∷ []
 reduced-push vs f h last = reduced-kept (vs ++ f ∷ []) (IsReduced-push vs f h last)
-
--- a part that goes before may be reduced first
-pub reduced-reduced_append : (fs gs : List Factor) → reduced (reduced fs ++ gs) ≡ reduced (fs ++ gs)
-reduced-reduced_append [] gs = refl
-reduced-reduced_append (f ∷ fs) gs = step (reduced fs) (IsReduced-reduced fs) ∙ ap (cons_reduced f) (reduced-reduced_append fs gs)
-  where
-    step : (rs : List Factor) → IsReduced rs → reduced (cons_reduced f rs ++ gs) ≡ cons_reduced f (reduced (rs ++ gs))
-    step [] h = refl
-    step (g ∷ rs) h = elim (cases_Bool (cancel f g)) [
-      | inl e ↦
-          let i = inverse_from f g e in
-          rw e (sym (rw i (reduced-cancels [] f (rs ++ gs))))
-      | inr e ↦ rw e refl
-    ]
 
 -- the names of a product are below a bound
 abbrev AreBelow : ℕ → List Factor → Type 0

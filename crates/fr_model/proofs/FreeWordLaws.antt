@@ -11,7 +11,7 @@ use Rattle.fr_model.proofs.TermLaws.{act-product_term}
 pub section_product_term : (s : System) (fs : List Factor) (x : ℕ) → IsAlike (Section (product_term s fs) (x ∷ [])) (product_term s (product_section s fs x))
 section_product_term s fs x = record { images = λ w. ap (drop 1) (act-product_term s fs (x ∷ w)) ∙ sym (act-product_term s (product_section s fs x) w) }
 
-inverse_from : (f g : Factor) → cancel f g ≡ true → g ≡ inverse_factor f
+pub inverse_from : (f g : Factor) → cancel f g ≡ true → g ≡ inverse_factor f
 inverse_from f g h =
     let p = and_parts (eqb f.name g.name) (differ f.inverse g.inverse) h in
     let n = eqb-true f.name g.name p.0 in
@@ -105,3 +105,21 @@ reduced-cancels (x ∷ fs) f gs = ap (cons_reduced x) (reduced-cancels fs f gs)
 
 pub reduced-product_section : (s : System) (f : Factor) (fs : List Factor) (x : ℕ) → reduced (product_section s (f ∷ fs) x) ≡ reduced (factor_section s f x ++ reduced (product_section s fs (factor_output s f x)))
 reduced-product_section s f fs x = sym (reduced-append_reduced (factor_section s f x) (product_section s fs (factor_output s f x)))
+
+-- a part that goes before may be reduced first
+pub reduced-reduced_append : (fs gs : List Factor) → reduced (reduced fs ++ gs) ≡ reduced (fs ++ gs)
+reduced-reduced_append [] gs = refl
+reduced-reduced_append (f ∷ fs) gs = step (reduced fs) (IsReduced-reduced fs) ∙ ap (cons_reduced f) (reduced-reduced_append fs gs)
+  where
+    step : (rs : List Factor) → IsReduced rs → reduced (cons_reduced f rs ++ gs) ≡ cons_reduced f (reduced (rs ++ gs))
+    step [] h = refl
+    step (g ∷ rs) h = elim (cases_Bool (cancel f g)) [
+      | inl e ↦
+          let i = inverse_from f g e in
+          rw e (sym (rw i (reduced-cancels [] f (rs ++ gs))))
+      | inr e ↦ rw e refl
+    ]
+
+pub section_word-append : (s : System) (fs : List Factor) (v : List ℕ) (x : ℕ) → section_word s fs (v ++ x ∷ []) ≡ reduced (product_section s (section_word s fs v) x)
+section_word-append s fs [] x = refl
+section_word-append s fs (y ∷ v) x = section_word-append s (reduced (product_section s fs y)) v x

@@ -1,7 +1,7 @@
 -- How many classes the valid values of a type fall into under a relation; sizes of terms and of pairs of terms. The size
 -- is the number of states of the minimal automaton (Grigorchuk, Nekrashevych and Sushchanskii, Automata, dynamical
 -- systems, and groups); the count of pairs is this project's own.
-use Rattle.std.specs.Prelude.{ℕ, ◌≡◌, ◌<◌, List, length, slice_index_or}
+use Rattle.std.specs.Prelude.{ℕ, ◌≡◌, ◌<◌, ◌≤◌, List, length, slice_index_or}
 use Rattle.std.specs.List.{All}
 use Rattle.fr_model.specs.Words.{IsWord}
 use Rattle.fr_model.specs.Terms.{Term, Section, act, IsAlike}
@@ -46,6 +46,10 @@ SamePair t u v w = SameSection t v w × IsAlike (Section u (act t v)) (Section u
 -- n such pairs, up to acting alike
 abbrev pub IsPairCount : ℕ → Term → Term → ℕ → Type 0
 IsPairCount d t u n = IsClassCount (IsWord d) (SamePair t u) n
+
+-- at most 65,536 such pairs, up to acting alike
+abbrev pub HasFewPairs : ℕ → Term → Term → Type 0
+HasFewPairs d t u = (n : ℕ) × (n ≤ 65536) × IsPairCount d t u n
 
 -- more than n such pairs, no two of which act alike
 abbrev pub HasMorePairs : ℕ → Term → Term → ℕ → Type 0

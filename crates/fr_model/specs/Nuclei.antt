@@ -1,4 +1,5 @@
--- Limit sections, and the nucleus of the group of some generators (Nekrashevych, Self-Similar Groups, chapter 2).
+-- Limit sections, and the nucleus of the group that some elements and all their sections generate (Nekrashevych,
+-- Self-Similar Groups, chapter 2). The depth as it is counted here is this project's own.
 use Rattle.std.specs.Prelude.{ℕ, ◌≡◌, ◌<◌, ◌≤◌, List, length}
 use Rattle.std.specs.Prelude.{Contains}
 use Rattle.fr_model.specs.Words.{IsWord}

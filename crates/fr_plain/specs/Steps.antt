@@ -3,7 +3,7 @@
 use Rattle.std.specs.Prelude.{ℕ, ◌≡◌, ◌⊎◌, ◌+◌, ◌≤◌, List, [], ◌∷◌, ◌++◌, Option, Some, None}
 use Rattle.fr_model.specs.Systems.{System}
 use Rattle.fr_model.specs.Terms.{Term, One, Name, Inverse, Product, Section}
-use Rattle.fr_model.specs.Classes.{IsSize, HasMoreStates, IsPairCount, HasMorePairs}
+use Rattle.fr_model.specs.Classes.{IsSize, HasMoreStates, HasFewPairs, HasMorePairs}
 use Rattle.fr_model.specs.FreeWords.{IsClosurePassed}
 use Rattle.fr_script.specs.declared.fault.LineFault.{LineFault}
 use Rattle.fr_script.specs.declared.fault.LineFault.TheVariants as f
@@ -38,10 +38,6 @@ value_of (Listed t) = t
 -- an element of so many states, which are at most 1,024
 abbrev pub HasStates : ℕ → Term → ℕ → Type 0
 HasStates d t n = (n ≤ 1024) × IsSize d t n
-
--- at most 65,536 pairs of sections
-abbrev pub HasFewPairs : ℕ → Term → Term → Type 0
-HasFewPairs d t u = (n : ℕ) × (n ≤ 65536) × IsPairCount d t u n
 
 -- the step is evaluated over d letters, and is charged so much
 abbrev pub IsCharged : ℕ → Step → ℕ → Type 0

@@ -3,7 +3,7 @@
 use Rattle.std.specs.Prelude.{ℕ, ◌≡◌, ◌⊎◌, ◌+◌, ◌<◌, ◌≤◌, List, [], ◌∷◌, Option, Some, Result, Ok, Err, unwrap_or}
 use Rattle.fr_model.specs.Words.{IsWord}
 use Rattle.fr_model.specs.Terms.{Term, Product, Section, IsTerm}
-use Rattle.fr_model.specs.Classes.{IsClassCount, IsPairCount}
+use Rattle.fr_model.specs.Classes.{IsClassCount, HasFewPairs}
 use Rattle.fr_model.specs.Canonical.{IsCode}
 use Rattle.fr_store.specs.declared.handle.Handle.{Handle}
 use Rattle.fr_store.specs.declared.handle.Full.{Full}
@@ -135,10 +135,6 @@ pub record Reads {S : Type 0} (view : View S) (old new : S) : Type 0 where
   pub known : SameKnown (view.known old) (view.known new)
   pub own : view.own new ≡ view.own old
   pub continues : Continues view old new
-
--- the pairs of sections of both terms are at most 65,536
-abbrev pub HasFewPairs : ℕ → Term → Term → Type 0
-HasFewPairs d t u = (n : ℕ) × (n ≤ 65536) × IsPairCount d t u n
 
 -- c is the handle of the product of the elements of a and b, which have few pairs
 pub record IsProductOf (d : ℕ) (known : ℕ → Option (List ℕ)) (a b c : Handle) : Type 0 where
