@@ -19,7 +19,7 @@ use Rattle.fr_machine.specs.Rows.{state_of, states_of, row_term, IsMachine}
 use Rattle.fr_machine.specs.Classes.{row_at}
 use Rattle.fr_machine.specs.Minimal.{AreUnlike}
 use Rattle.fr_machine.specs.Walks.{WalkView, IsKeys, IsNumbered, walk_after, Extends}
-use Rattle.fr_machine.proofs.RowLaws.{IsAutomaton-states_of, length-states_of}
+use Rattle.fr_machine.proofs.RowLaws.{IsAutomaton-states_of, length-states_of, IsTerm-row_term}
 use Rattle.fr_machine.proofs.WalkLaws.{Extends-refl, Extends-numbered, Extends-trans}
 use Rattle.fr_machine.proofs.OrderLaws.{IsOrdered, IsOrdered-known, IsOrdered-new, IsOrdered-row}
 use Rattle.fr_machine.proofs.CanonLaws.{IsCanonical-walked}
@@ -263,9 +263,6 @@ module _ (d : ℕ) (rows : List Row) (m : IsMachine d rows) (others : AreUnlike 
 
   pub IsCode-listed : IsCode d (row_term rows s) code
   IsCode-listed = record { states = h.states; canonical = IsCanonical-listed; written = h.written }
-
-pub IsTerm-row_term : (d : ℕ) (rows : List Row) (s : ℕ) → IsMachine d rows → s < length rows → IsTerm d (row_term rows s)
-IsTerm-row_term d rows s m l = IsTerm-state_term d (states_of rows) s (IsAutomaton-states_of d rows m) (omega (arith, l, length-states_of rows))
 
 -- rows of machines over one alphabet act alike exactly where their codes are equal
 pub codes_tell : (d e : ℕ) (rows others : List Row) (s t : ℕ) (a b : List ℕ) → d ≡ e → IsMachine d rows → IsMachine e others → s < length rows → t < length others → IsCode d (row_term rows s) a → IsCode e (row_term others t) b → (a ≡ b) ↔ IsAlike (row_term rows s) (row_term others t)

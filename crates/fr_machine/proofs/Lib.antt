@@ -2,10 +2,12 @@ pub mod CanonLaws
 pub mod CleanCountLaws
 pub mod FindLaws
 pub mod FixedLaws
+pub mod IdentityLaws
 pub mod InverseLaws
 pub mod LimitLaws
 pub mod MarkLaws
 pub mod MemberLaws
+pub mod MinimalLaws
 pub mod OrderLaws
 pub mod PartitionLaws
 pub mod PredecessorLaws

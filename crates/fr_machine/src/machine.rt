@@ -3,13 +3,13 @@
 ghost use Rattle.std.specs.Prelude.{ℕ, ◌≡◌, ◌<◌, ◌≤◌, ◌↔◌, IsTrue, IsSome, IfSome, IfOk, length};
 ghost use Rattle.fr_model.specs.Words.{IsLetter, IsWord};
 ghost use Rattle.fr_model.specs.Permutations.{image, preimage};
-ghost use Rattle.fr_model.specs.Terms.{act, back, Section, IsAlike};
+ghost use Rattle.fr_model.specs.Terms.{One, act, back, Section, IsAlike};
 ghost use Rattle.fr_model.specs.Automata.{state_at, next_state, state_after};
 ghost use Rattle.fr_machine.specs.Rows.{IsRow, IsMachine, row_term, states_of, row_at};
 ghost use Rattle.fr_machine.specs.Inverses.{IsInverseRow, AreInverses};
 
 use crate::row::Row;
-use fr_alphabet::{Alphabet, NoMemory, Word};
+use fr_alphabet::{Alphabet, NoMemory, Perm, Word};
 use std::alloc::Global;
 use std::marker::Model;
 
@@ -61,6 +61,23 @@ impl Machine {
         ensures { result ≡ record { alphabet = a; rows = rows.items } }
     {
         Machine { alphabet: a, rows }
+    }
+
+    /// The machine of the identity: one row, which leaves each letter where it is and leads to itself. The only error is
+    /// want of memory.
+    pub fn identity(alloc: Global, a: Alphabet) -> Result<Machine, NoMemory>
+        ensures alphabet { IfOk result (λ m. m.alphabet ≡ a) }
+        ensures size { IfOk result (λ m. length m.rows ≡ 1) }
+        ensures alike { IfOk result (λ m. IsAlike (row_term m.rows 0) One) }
+    {
+        // For the proof: an alphabet has 2 to 8 letters.
+        let _letters = a.letters();
+        let mut rows = Vec::new(alloc);
+        rows.push(Row {
+            perm: Perm::identity(a),
+            next: [0; 8],
+        })?;
+        Ok(Machine { alphabet: a, rows })
     }
 
     /// The same machine once more. The only error is want of memory.

@@ -1,10 +1,13 @@
 //! Machines that are as small as they can be.
 
 ghost use Rattle.std.specs.Prelude.{◌≡◌, IfOk, length};
+ghost use Rattle.fr_model.specs.Terms.{One, IsAlike};
+ghost use Rattle.fr_machine.specs.Rows.{row_term};
 ghost use Rattle.fr_machine.specs.Minimal.{IsMinimal};
+ghost use Rattle.fr_machine.specs.Inverses.{AreInverses};
 
 use crate::machine::Machine;
-use fr_alphabet::NoMemory;
+use fr_alphabet::{Alphabet, NoMemory};
 use std::alloc::Global;
 use std::marker::Model;
 
@@ -37,6 +40,28 @@ impl Minimal {
         ensures { result ≡ m }
     {
         Minimal { machine: m }
+    }
+
+    /// The machine of the identity, which has one row. The only error is want of memory.
+    pub fn identity(alloc: Global, a: Alphabet) -> Result<Minimal, NoMemory>
+        ensures alphabet { IfOk result (λ m. m.alphabet ≡ a) }
+        ensures size { IfOk result (λ m. length m.rows ≡ 1) }
+        ensures alike { IfOk result (λ m. IsAlike (row_term m.rows 0) One) }
+    {
+        let machine = Machine::identity(alloc, a)?;
+        let _rows = machine.rows();
+        Ok(Minimal { machine })
+    }
+
+    /// The machine of the inverse of the element of this one, row by row. The only error is want of memory.
+    pub fn inverse(&self, alloc: Global) -> Result<Minimal, NoMemory>
+        ensures alphabet { IfOk result (λ m. m.alphabet ≡ self.now.alphabet) }
+        ensures size { IfOk result (λ m. length m.rows ≡ length self.now.rows) }
+        ensures rows { IfOk result (λ m. AreInverses self.now.rows m.rows) }
+    {
+        let machine = self.machine.inverse(alloc)?;
+        let _rows = machine.rows();
+        Ok(Minimal { machine })
     }
 
     /// The same machine once more. The only error is want of memory.

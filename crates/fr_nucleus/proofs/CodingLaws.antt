@@ -19,11 +19,11 @@ use Rattle.fr_canon.specs.Texts.{IsStateCode}
 use Rattle.fr_canon.proofs.PrintLaws.{code_of-length, count_is, part_is}
 use Rattle.fr_canon.proofs.CanonicalOrderLaws.{IsInOrder-canonical, no_repeat}
 use Rattle.fr_canon.proofs.WalkReadLaws.{AreReached-read}
-use Rattle.fr_machine.proofs.RowLaws.{IsAutomaton-states_of, length-states_of}
+use Rattle.fr_machine.proofs.RowLaws.{IsAutomaton-states_of, length-states_of, IsRow-filled, IsMachine-rows}
 use Rattle.fr_nucleus.specs.declared.coding.Listed.{Listed}
 use Rattle.fr_nucleus.specs.Coding.{IsRowOfState, IsListed, AreListed}
 use Rattle.fr_nucleus.proofs.Pigeons.{shared}
-use Rattle.fr_nucleus.proofs.NextLaws.{IsFilling, IsRow-filled, IsMachine-rows, row_at_old, row_at_new}
+use Rattle.fr_nucleus.proofs.NextLaws.{IsFilling, row_at_old, row_at_new}
 
 -- the number of a next state in the part of a state
 pub part_entry : (d : ℕ) (part : List ℕ) (q : State) (x : ℕ) → IsStateCode d part q → x < d → get_or part (x + 1) 0 ≡ suc (get_or q.next x 0)

@@ -7,9 +7,8 @@ use Rattle.fr_model.specs.Automata.{State, next_state, state_after, IsAutomaton,
 use Rattle.fr_model.proofs.AutomatonLaws.{state_after-lt}
 use Rattle.fr_machine.specs.declared.row.Row.{Row}
 use Rattle.fr_machine.specs.Rows.{states_of, IsMachine, row_at}
-use Rattle.fr_machine.proofs.RowLaws.{IsAutomaton-states_of, length-states_of}
+use Rattle.fr_machine.proofs.RowLaws.{IsAutomaton-states_of, length-states_of, row_valid, next_is}
 use Rattle.fr_nucleus.specs.Depths.{mark_at, LeadsIn, IsWayOut, AreBack, IsBackOf}
-use Rattle.fr_nucleus.proofs.NextLaws.{row_valid, next_is}
 use Rattle.fr_nucleus.proofs.NucleusTables.{IsLimitStateFrom}
 use Rattle.fr_nucleus.proofs.LimitLaws.{long_state}
 

@@ -13,13 +13,13 @@ use Rattle.fr_model.proofs.TermLaws.{IsWord-append}
 use Rattle.fr_model.proofs.AlikeLaws.{alike_refl, alike_sym, alike_trans, alike_product}
 use Rattle.fr_machine.specs.declared.row.Row.{Row}
 use Rattle.fr_machine.specs.Rows.{row_term, states_of, IsMachine, row_at}
-use Rattle.fr_machine.proofs.RowLaws.{IsAutomaton-states_of, length-states_of}
+use Rattle.fr_machine.proofs.RowLaws.{IsAutomaton-states_of, length-states_of, row_valid, next_is}
 use Rattle.fr_product.proofs.PairLaws.{pair_lt}
 use Rattle.fr_nucleus.specs.Depths.{mark_at}
 use Rattle.fr_nucleus.specs.Rows.{HasRow, AreFewRows}
 use Rattle.fr_nucleus.specs.Products.{IsProductTable}
 use Rattle.fr_nucleus.specs.Numberings.{place_at, ArePlaces, AreEmptyPlaces, IsNumberingOf, IsOverfull, AreGrown, AreMembers, HasMoreOf, IsClosure}
-use Rattle.fr_nucleus.proofs.NextLaws.{alike_rows, alike_perms, alike_nexts, row_valid, next_is, leads-lt}
+use Rattle.fr_nucleus.proofs.NextLaws.{alike_rows, alike_perms, alike_nexts, leads-lt}
 use Rattle.fr_nucleus.proofs.ProductLaws.{IsMachine-products, alike_product_row, alike_pair}
 use Rattle.fr_nucleus.proofs.NumberingLaws.{new_next, IsMachine-grown}
 use Rattle.fr_nucleus.proofs.LimitLaws.{state_after-append}

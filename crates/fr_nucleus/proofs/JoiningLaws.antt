@@ -11,11 +11,11 @@ use Rattle.fr_model.proofs.AutomatonLaws.{act-state_term, IsTerm-state_term}
 use Rattle.fr_model.proofs.PermutationLaws.{IsPermutation-identity, image-identity}
 use Rattle.fr_machine.specs.declared.row.Row.{Row}
 use Rattle.fr_machine.specs.Rows.{row_term, state_of, states_of, IsRow, IsMachine, row_at}
-use Rattle.fr_machine.proofs.RowLaws.{IsAutomaton-states_of, length-states_of}
+use Rattle.fr_machine.proofs.RowLaws.{IsAutomaton-states_of, length-states_of, IsRow-filled, IsMachine-rows, row_valid, state_is_row, next_is}
 use Rattle.fr_machine.specs.Numberings.{IsNumberedFrom}
 use Rattle.fr_machine.specs.Classes.{AreClasses}
 use Rattle.fr_nucleus.specs.Joining.{IsRenumbered, AreJoined, AreReduced}
-use Rattle.fr_nucleus.proofs.NextLaws.{IsFilling, IsRow-filled, IsMachine-rows, row_at_old, row_at_new, row_valid, state_is_row, next_is, alike_rows, alike_perms, alike_nexts, row_zero, leads-lt}
+use Rattle.fr_nucleus.proofs.NextLaws.{IsFilling, row_at_old, row_at_new, alike_rows, alike_perms, alike_nexts, row_zero, leads-lt}
 
 pub IsRenumbered-filled : (f : ℕ → ℕ) (r q : Row) (x : ℕ) → q.perm ≡ r.perm → IsFilling (λ y n. n ≡ f (get_or r.next y 0)) q.next x → x ≡ length r.perm → IsRenumbered f r q
 IsRenumbered-filled f r q x p h e = record {
@@ -24,46 +24,6 @@ IsRenumbered-filled f r q x p h e = record {
   nexts = λ y l. h.nexts y (omega (arith, l, e));
   zeros = λ y l b. h.zeros y (omega (arith, l, e)) b;
 }
-
--- ---- the identity
-module _ (d : ℕ) (rows : List Row) (few : 2 ≤ d) (most : d ≤ 8) (e : rows ≡ record { perm = identity_permutation d; next = replicate 8 0 } ∷ []) where
-  first : row_at rows 0 ≡ record { perm = identity_permutation d; next = replicate 8 0 }
-  first = ap (λ xs. row_at xs 0) e
-
-  entry : (x : ℕ) → x < 8 → get_or (row_at rows 0).next x 0 ≡ 0
-  entry x l = ap (λ r. get_or r.next x 0) first ∙ get_or-replicate 8 x 0 0 l
-
-  one_row : (s : ℕ) → s < length rows → s ≡ 0
-  one_row s l = omega (arith, ap length e)
-
-  pub IsMachine-identity : IsMachine d rows
-  IsMachine-identity = IsMachine-rows d rows few most (omega (arith, ap length e)) (omega (arith, ap length e)) (λ s l. rw (one_row s l) valid_identity)
-    where
-      valid_identity : IsRow d (length rows) (row_at rows 0)
-      valid_identity = IsRow-filled d (length rows) (row_at rows 0) most (omega (arith, ap length e)) (rw first (IsPermutation-identity d)) (ap (λ r. length r.next) first) (λ x k. omega (arith, entry x (omega arith), ap length e)) (λ x a b. entry x b)
-
-  auto : IsAutomaton d (states_of rows)
-  auto = IsAutomaton-states_of d rows IsMachine-identity
-
-  inside : 0 < length rows
-  inside = omega (arith, ap length e)
-
-  inside_states : 0 < length (states_of rows)
-  inside_states = omega (arith, inside, length-states_of rows)
-
-  stays : (w : List ℕ) → IsWord d w → act (row_term rows 0) w ≡ w
-  stays [] k = act-nil (row_term rows 0)
-  stays (x ∷ w) k =
-      let same : (state_at (states_of rows) 0).perm ≡ identity_permutation d = ap (λ q. q.perm) (state_is_row d rows IsMachine-identity 0 inside ∙ ap state_of first) in
-      let there : next_state (states_of rows) 0 x ≡ 0 = next x k.0 in
-      act-state_term d (states_of rows) 0 x w auto inside_states k.0 ∙ rw (same, there, image-identity d x, stays w k.1) refl
-    where
-      next : (x : ℕ) → IsLetter d x → next_state (states_of rows) 0 x ≡ 0
-      next zero h = absurd (omega (arith, h.0))
-      next (suc i) h = next_is d rows IsMachine-identity 0 inside i (omega (arith, h.1)) ∙ entry i (omega (arith, h.1))
-
-  pub alike_identity : IsAlike (row_term rows 0) One
-  alike_identity = alike_from_words d (IsTerm-state_term d (states_of rows) 0 auto inside_states) tt stays
 
 -- ---- the rows of two machines
 

@@ -11,7 +11,7 @@ use Rattle.fr_model.proofs.AutomatonLaws.{alike_by_relation, alike_states}
 use Rattle.fr_model.proofs.CanonicalLaws.{perm_from_images}
 use Rattle.fr_machine.specs.declared.row.Row.{Row}
 use Rattle.fr_machine.specs.Rows.{state_of, states_of, row_term, IsRow, IsMachine, row_at}
-use Rattle.fr_machine.proofs.RowLaws.{IsAutomaton-states_of, length-states_of, state_at_row, next_row}
+use Rattle.fr_machine.proofs.RowLaws.{IsAutomaton-states_of, length-states_of, row_valid, state_is_row, next_is}
 
 -- the first x of eight entries meet what is asked, and the others are 0
 pub record IsFilling (P : ℕ → ℕ → Type 0) (next : List ℕ) (x : ℕ) : Type 0 where
@@ -32,42 +32,12 @@ IsFilling-more P next next' x v h l p f =
       zeros = λ y k b. other y (λ t. omega arith) ∙ h.zeros y (omega arith) b;
     }
 
--- a row over d letters whose entries at letters are below n
-pub IsRow-filled : (d n : ℕ) (q : Row) → d ≤ 8 → 0 < n → IsPermutation d q.perm → length q.next ≡ 8 → ((x : ℕ) → x < d → get_or q.next x 0 < n) → ((x : ℕ) → d ≤ x → x < 8 → get_or q.next x 0 ≡ 0) → IsRow d n q
-IsRow-filled d n q l some p w below zeros = record {
-  permutes = p;
-  width = w;
-  below = All-from_get_or (λ m. m < n) q.next 0 (λ x k. elim (cases_lt x d) [ inl t ↦ below x t | inr t ↦ omega (arith, zeros x (omega arith) (omega (arith, w)), some) ]);
-  zeros = All-from_get_or (λ m. m ≡ 0) (drop d q.next) 0 (λ i k. get_or-drop d q.next i 0 ∙ zeros (d + i) (omega arith) (omega (arith, k, length-drop d q.next, w)));
-}
-
 -- the rows of a list with one more
 pub row_at_old : (rows rows' : List Row) (r : Row) (s : ℕ) → rows' ≡ rows ++ r ∷ [] → s < length rows → row_at rows' s ≡ row_at rows s
 row_at_old rows rows' r s e l = ap (λ xs. row_at xs s) e ∙ get_or_append_left rows (r ∷ []) (record { perm = []; next = [] }) s l
 
 pub row_at_new : (rows rows' : List Row) (r : Row) → rows' ≡ rows ++ r ∷ [] → row_at rows' (length rows) ≡ r
 row_at_new rows rows' r e = ap (λ xs. row_at xs (length rows)) e ∙ get_or_push rows r (record { perm = []; next = [] }) (length rows) refl
-
-pub row_read : (rows : List Row) (s : ℕ) (z : Row) → s < length rows → get_or rows s z ≡ row_at rows s
-row_read rows s z l = get_or_default rows s z (record { perm = []; next = [] }) l
-
-pub IsMachine-rows : (d : ℕ) (rows : List Row) → 2 ≤ d → d ≤ 8 → 1 ≤ length rows → length rows ≤ 65536 → ((s : ℕ) → s < length rows → IsRow d (length rows) (row_at rows s)) → IsMachine d rows
-IsMachine-rows d rows a b some few h = record { few = a; letters = b; least = some; most = few; valid = λ s z l. rw (row_read rows s z l) (h s l) }
-
-module _ (d : ℕ) (rows : List Row) (m : IsMachine d rows) (s : ℕ) (l : s < length rows) where
-  pub row_valid : IsRow d (length rows) (row_at rows s)
-  row_valid = m.valid s (record { perm = []; next = [] }) l
-
-  back : row_at rows s ≡ get_or rows s (row_at rows s)
-  back = sym (row_read rows s (row_at rows s) l)
-
-  pub state_is_row : state_at (states_of rows) s ≡ state_of (row_at rows s)
-  state_is_row = state_at_row d rows m s l (row_at rows s) back
-
-  pub next_is : (x : ℕ) → x < d → next_state (states_of rows) s (suc x) ≡ get_or (row_at rows s).next x 0
-  next_is x k =
-      let e : suc x - 1 ≡ x = omega arith in
-      sym (next_row d rows m s l (row_at rows s) back (suc x) (omega arith, omega arith)) ∙ ap (λ y. get_or (row_at rows s).next y 0) e
 
 -- rows of two machines act alike where a relation of them says that they put out the same and that it holds of their next rows
 pub alike_rows : (d : ℕ) (ms ns : List Row) → IsMachine d ms → IsMachine d ns → (R : ℕ → ℕ → Type 0)

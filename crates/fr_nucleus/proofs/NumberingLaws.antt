@@ -16,7 +16,8 @@ use Rattle.fr_product.specs.Limits.{AreLimitRows}
 use Rattle.fr_nucleus.specs.Depths.{mark_at}
 use Rattle.fr_nucleus.specs.Numberings.{place_at, ArePlaces, IsPlacedRow, AreKnown, AreNumbered, IsNumberedClass, IsFull, IsNumberingOf, IsOverfull, AreGrown}
 use Rattle.fr_nucleus.proofs.ListLaws.{choice}
-use Rattle.fr_nucleus.proofs.NextLaws.{IsRow-filled, IsMachine-rows, row_at_old, row_at_new, row_valid, row_zero, leads-lt}
+use Rattle.fr_machine.proofs.RowLaws.{IsRow-filled, IsMachine-rows, row_valid}
+use Rattle.fr_nucleus.proofs.NextLaws.{row_at_old, row_at_new, row_zero, leads-lt}
 
 -- one more member
 pub AreKnown-more : (of : List ℕ) (members width m n key : ℕ) (w w' : WalkView) → AreKnown of w.keys members width m → m < members → ((i j : ℕ) → i < j → j < members → get_or of (i * width) 0 ≢ get_or of (j * width) 0) → key ≡ get_or of (m * width) 0 → IsNumbered w w' key 65536 n → AreKnown of w'.keys members width (m + 1)

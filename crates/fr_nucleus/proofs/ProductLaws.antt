@@ -12,10 +12,10 @@ use Rattle.fr_model.proofs.AutomatonLaws.{act-state_term, IsTerm-state_term}
 use Rattle.fr_model.proofs.PermutationLaws.{IsPermutation-composite, image-composite, image-IsLetter}
 use Rattle.fr_machine.specs.declared.row.Row.{Row}
 use Rattle.fr_machine.specs.Rows.{states_of, row_term, IsRow, IsMachine, row_at}
-use Rattle.fr_machine.proofs.RowLaws.{IsAutomaton-states_of, length-states_of}
+use Rattle.fr_machine.proofs.RowLaws.{IsAutomaton-states_of, length-states_of, IsRow-filled, IsMachine-rows, row_valid, state_is_row, next_is}
 use Rattle.fr_product.proofs.PairLaws.{pair_lt, pair_left, pair_right}
 use Rattle.fr_nucleus.specs.Products.{IsProductOfRows, AreProductRows, IsProductTable}
-use Rattle.fr_nucleus.proofs.NextLaws.{IsRow-filled, IsMachine-rows, row_at_old, row_at_new, row_valid, state_is_row, next_is, leads-lt}
+use Rattle.fr_nucleus.proofs.NextLaws.{row_at_old, row_at_new, leads-lt}
 
 -- a pair is a place in the table
 pub pair_below : (a b m n : ℕ) → a < m → b < n → a * n + b < m * n

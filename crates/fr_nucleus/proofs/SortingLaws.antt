@@ -24,8 +24,7 @@ use Rattle.fr_machine.specs.declared.row.Row.{Row}
 use Rattle.fr_machine.specs.Machine.{MachineView}
 use Rattle.fr_machine.specs.Rows.{row_term, states_of, IsMachine}
 use Rattle.fr_machine.specs.Minimal.{AreUnlike}
-use Rattle.fr_machine.proofs.RowLaws.{length-states_of}
-use Rattle.fr_canon.proofs.ListingLaws.{IsTerm-row_term}
+use Rattle.fr_machine.proofs.RowLaws.{length-states_of, IsTerm-row_term}
 use Rattle.fr_canon.proofs.PrintLaws.{count_is}
 use Rattle.fr_nucleus.specs.declared.coding.Listed.{Listed}
 use Rattle.fr_nucleus.specs.Elements.{element_of}

@@ -6,7 +6,6 @@ ghost use Rattle.fr_nucleus.specs.Products.{IsProductTable};
 ghost use Rattle.fr_nucleus.specs.Numberings.{AreMembers, IsNumberingOf, ArePlaces, IsClosure, HasMoreOf};
 
 use crate::fault::NucleusFault;
-use crate::joining::identity_machine;
 use crate::numbering::{Numbering, empty_places};
 use crate::pairs::with_products;
 use fr_machine::Machine;
@@ -36,7 +35,7 @@ pub fn close(alloc: Global, sections: &Machine, most: u16) -> Result<Closure, Nu
     ensures few { IfOk result (λ c. length c.members.rows ≤ most) }
     ensures err { IfErr result (λ e. (e ≡ NucleusFault.NoMemory) ⊎ ((e ≡ NucleusFault.Passes most) × HasMoreOf sections.now.alphabet sections.now.rows most)) }
 {
-    let mut members = identity_machine(alloc, sections.alphabet())?;
+    let mut members = Machine::identity(alloc, sections.alphabet())?;
     let mut products = with_products(alloc, &[], &members, sections)?;
     let mut numbering = number_products(alloc, &members, &products, sections, most)?;
     while numbering.count() > members.rows().len() {

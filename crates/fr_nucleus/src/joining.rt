@@ -1,30 +1,13 @@
 //! Machines that are made of the rows of others.
 
 ghost use Rattle.std.specs.Prelude.{◌≡◌, ℕ, ◌<◌, ◌≤◌, ◌+◌, IfOk, length, slice_index};
-ghost use Rattle.fr_model.specs.Terms.{One, IsAlike};
-ghost use Rattle.fr_machine.specs.Rows.{IsRow, row_term};
+ghost use Rattle.fr_machine.specs.Rows.{IsRow};
 ghost use Rattle.fr_machine.specs.Classes.{AreClasses};
 ghost use Rattle.fr_nucleus.specs.Joining.{IsRenumbered, AreJoined, AreReduced};
 
-use fr_alphabet::{Alphabet, NoMemory, Perm};
+use fr_alphabet::NoMemory;
 use fr_machine::{Machine, Row};
 use std::alloc::Global;
-
-/// The machine whose one row is the identity. The only error is want of memory.
-pub fn identity_machine(alloc: Global, a: Alphabet) -> Result<Machine, NoMemory>
-    ensures alphabet { IfOk result (λ m. m.alphabet ≡ a) }
-    ensures one { IfOk result (λ m. length m.rows ≡ 1) }
-    ensures alike { IfOk result (λ m. IsAlike (row_term m.rows 0) One) }
-{
-    // For the proof: an alphabet has 2 to 8 letters.
-    let _letters = a.letters();
-    let mut rows = Vec::new(alloc);
-    rows.push(Row {
-        perm: Perm::identity(a),
-        next: [0; 8],
-    })?;
-    Ok(Machine::from_rows(a, rows))
-}
 
 /// The rows of `m`, and behind them those of `n`, which act as before. Both machines are over one alphabet, and have at
 /// most 65,536 rows together. The only error is want of memory.

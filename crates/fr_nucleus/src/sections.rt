@@ -9,7 +9,7 @@ ghost use Rattle.fr_nucleus.specs.Joining.{HasRowOfEither, IsUnion, IsAmong, Has
 ghost use Rattle.fr_nucleus.specs.Faults.{IsSectionFault};
 
 use crate::fault::NucleusFault;
-use crate::joining::{identity_machine, joined, reduced};
+use crate::joining::{joined, reduced};
 use fr_machine::{Machine, Minimal, classes_within};
 use std::alloc::Global;
 
@@ -27,7 +27,7 @@ pub fn generator_sections(alloc: Global, gens: &[Minimal]) -> Result<Machine, Nu
     ensures sections { IfOk result (λ q. AreSections gens.now q.rows) }
     ensures err { IfErr result (λ e. IsSectionFault gens.now e) }
 {
-    let mut found = identity_machine(alloc, gens[0].machine().alphabet())?;
+    let mut found = Machine::identity(alloc, gens[0].machine().alphabet())?;
     for g in gens {
         found = with_sections(alloc, &found, g.machine())?;
     }

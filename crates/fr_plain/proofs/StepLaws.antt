@@ -1,10 +1,10 @@
 -- A step has one charge or one fault, and steps are evaluated to one end.
 use Rattle.std.proofs.Common.{ℕ, ◌≡◌, ◌+◌, inl, inr, List, [], ◌∷◌, ◌++◌, Some, None, length, refl, sym, ◌∙◌, ap, subst, arith}
 use Rattle.fr_model.specs.Terms.{Term, Product, Name}
-use Rattle.fr_model.specs.Classes.{HasMorePairs, HasMoreStates}
+use Rattle.fr_model.specs.Classes.{HasMorePairs, HasMoreStates, HasFewPairs}
 use Rattle.fr_model.proofs.ClassLaws.{size_once, HasMorePairs-lt, HasMoreStates-lt}
 use Rattle.fr_script.specs.declared.fault.LineFault.{LineFault}
-use Rattle.fr_plain.specs.Steps.{Step, Looked, Identity, Inverted, Multiplied, Restricted, Defined, Listed, HasStates, HasFewPairs, IsCharged, IsRefused, AreEvaluated, AreStopped}
+use Rattle.fr_plain.specs.Steps.{Step, Looked, Identity, Inverted, Multiplied, Restricted, Defined, Listed, HasStates, IsCharged, IsRefused, AreEvaluated, AreStopped}
 
 few_not_more : (d : ℕ) (t u : Term) → HasFewPairs d t u → HasMorePairs d t u 65536 → ⊥
 few_not_more d t u few more = omega (arith, few.1, HasMorePairs-lt d t u 65536 few.0 more few.2)

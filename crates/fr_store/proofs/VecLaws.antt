@@ -12,8 +12,7 @@ use Rattle.fr_model.proofs.AutomatonLaws.{section_state_letter, act-state_letter
 use Rattle.fr_model.proofs.CodeLaws.{code-same, alike_from_code, IsCode-alike}
 use Rattle.fr_machine.specs.declared.row.Row.{Row}
 use Rattle.fr_machine.specs.Rows.{row_term, states_of}
-use Rattle.fr_machine.proofs.RowLaws.{IsAutomaton-states_of, length-states_of}
-use Rattle.fr_canon.proofs.ListingLaws.{IsTerm-row_term}
+use Rattle.fr_machine.proofs.RowLaws.{IsAutomaton-states_of, length-states_of, IsTerm-row_term}
 use Rattle.fr_store.specs.declared.blocks.Place.{Place}
 use Rattle.fr_store.specs.declared.handle.Handle.{Handle}
 use Rattle.fr_store.specs.Store.{StandsForTerm, IsKnown, AreHandles, IsUnknown, IsHandleCount, known_code}

@@ -7,7 +7,7 @@ use Rattle.fr_nucleus.proofs.GrowthLaws.{AreMembers-identity, used, closed, AreM
 use Rattle.fr_nucleus.proofs.closure.close.Goals as goal
 
 pub number_products-requires-clause-members : goal.number_products-requires-clause-members
-number_products-requires-clause-members c = AreMembers-identity c.args.sections.now.alphabet c.args.sections.now.rows c.in_ok-members.members.rows (omega (arith, c.alphabet.ensures.valid.few)) c.requires.sections c.in_ok-members.ensures.one c.in_ok-members.ensures.alike
+number_products-requires-clause-members c = AreMembers-identity c.args.sections.now.alphabet c.args.sections.now.rows c.in_ok-members.members.rows (omega (arith, c.alphabet.ensures.valid.few)) c.requires.sections c.in_ok-members.ensures.size c.in_ok-members.ensures.alike
 
 pub members-requires-clause-used : goal.members-requires-clause-used
 members-requires-clause-used c =
@@ -58,9 +58,9 @@ loop-numbering-init c =
     record {
       members_over = over;
       products_over = c.in_ok-products.ensures.alphabet ∙ over;
-      members = AreMembers-identity c.args.sections.now.alphabet c.args.sections.now.rows c.in_ok-members.members.rows (omega (arith, c.alphabet.ensures.valid.few)) c.requires.sections c.in_ok-members.ensures.one c.in_ok-members.ensures.alike;
+      members = AreMembers-identity c.args.sections.now.alphabet c.args.sections.now.rows c.in_ok-members.members.rows (omega (arith, c.alphabet.ensures.valid.few)) c.requires.sections c.in_ok-members.ensures.size c.in_ok-members.ensures.alike;
       table = c.in_ok-products.ensures.rows;
-      few = omega (arith, c.in_ok-members.ensures.one, c.requires.least);
+      few = omega (arith, c.in_ok-members.ensures.size, c.requires.least);
       numbers = c.in_ok-numbering.ensures.numbers;
       places = c.in_ok-numbering.ensures.places;
     }

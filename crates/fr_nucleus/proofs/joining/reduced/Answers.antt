@@ -2,7 +2,7 @@ use Rattle.std.proofs.Common.{ℕ, ap, sym, subst, ◌≡◌, ◌∙◌, ◌<◌
 use Rattle.fr_machine.specs.declared.row.Row.{Row}
 use Rattle.fr_machine.specs.Rows.{IsMachine, row_at}
 use Rattle.fr_nucleus.specs.Joining.{AreReduced}
-use Rattle.fr_nucleus.proofs.NextLaws.{row_read}
+use Rattle.fr_machine.proofs.RowLaws.{row_read}
 use Rattle.fr_nucleus.proofs.JoiningLaws.{IsReducedPart, IsReducedPart-new, IsReducedPart-pass, IsMachine-reduced, AreReduced-from}
 use Rattle.fr_nucleus.proofs.joining.reduced.Goals as goal
 use Rattle.fr_nucleus.proofs.joining.reduced.Goals.{then-of-s+in_ok-push, else-of-s}

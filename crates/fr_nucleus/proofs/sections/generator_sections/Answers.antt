@@ -11,7 +11,7 @@ use Rattle.fr_nucleus.proofs.sections.generator_sections.Goals as goal
 pub loop-g-init : goal.loop-g-init
 loop-g-init c = record {
   alphabet = c.in_ok-found.ensures.alphabet ∙ c.alphabet.ensures.value ∙ ap (λ m. m.alphabet) (c.machine.ensures.value ∙ c.index-gens-0.is) ∙ alphabet_first c.args.gens.now c.index-gens-0.result c.requires.some;
-  rows = IsCollected-start c.args.gens.now c.in_ok-found.found.rows (AreFewRows-one c.in_ok-found.found.rows c.in_ok-found.ensures.one c.in_ok-found.ensures.alike) c.in_ok-found.ensures.one;
+  rows = IsCollected-start c.args.gens.now c.in_ok-found.found.rows (AreFewRows-one c.in_ok-found.found.rows c.in_ok-found.ensures.size c.in_ok-found.ensures.alike) c.in_ok-found.ensures.size;
 }
 
 pub returns-in_err-found-2-clause-err : goal.returns-in_err-found-2-clause-err

@@ -1,7 +1,7 @@
 use Rattle.std.proofs.Common.{rules, refl, inl, inr, arith, ℕ, Some, ◌≡◌, ◌∙◌, [], ◌∷◌, List, length, ap, sym, subst}
 use Rattle.fr_model.specs.Terms.{Term, IsTerm, IsAlike}
 use Rattle.fr_model.proofs.AlikeLaws.{alike_refl}
-use Rattle.fr_canon.proofs.ListingLaws.{IsTerm-row_term}
+use Rattle.fr_machine.proofs.RowLaws.{IsTerm-row_term}
 use Rattle.fr_model.specs.Canonical.{IsCode}
 use Rattle.fr_machine.specs.Rows.{row_term}
 use Rattle.fr_store.specs.Store.{StandsForTerm, AreHandles, GrowsBy, Keeps}
