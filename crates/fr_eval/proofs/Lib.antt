@@ -1,6 +1,13 @@
 pub mod NameLaws
-pub mod BlockLaws
-pub mod BuiltLaws
 pub mod FitLaws
-pub mod ScopeLaws
-pub mod PlainLaws
+pub mod BlockLaws
+pub mod EnterLaws
+pub mod DefineLaws
+pub mod AnswerLaws
+pub mod ConcludingLaws
+pub mod ListLaws
+pub mod AskLaws
+pub mod GeneratorLaws
+pub mod NucleusLaws
+pub mod OrderLaws
+pub mod RowTextLaws

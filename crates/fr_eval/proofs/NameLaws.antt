@@ -1,6 +1,6 @@
--- Places of names, and the first repeated name of a block.
+-- Places of names, the first repeated name of a block, and the first unknown one.
 use Rattle.std.proofs.Common.{ℕ, suc, ◌≡◌, ◌+◌, ◌<◌, Bool, true, false, ◌||◌, if◌then◌else◌, List, [], ◌∷◌, ◌++◌, length, take, drop, get_or, Option, Some, None, refl, sym, ◌∙◌, ap, arith, add-one}
-use Rattle.std.specs.Prelude.{is_some, option_map}
+use Rattle.std.specs.Prelude.{is_some, option_map, not}
 use Rattle.std.specs.List.{list_any}
 use Rattle.std.specs.Str.{bytes_eq}
 use Rattle.std.proofs.lemmas.List.{take_more, map_push, length-map, length-take}
@@ -8,7 +8,9 @@ use Rattle.std.proofs.lemmas.Slice.Eq.{bytes_eq-Decides}
 use Rattle.std.proofs.Math.Seq.{drop-cons}
 use Rattle.fr_syntax.specs.declared.statement.Recursion.{Recursion}
 use Rattle.fr_plain.specs.Blocks.{names_of, place_of}
-use Rattle.fr_plain.specs.BlockNames.{first_repeat}
+use Rattle.fr_script.specs.declared.fault.LineFault.TheVariants as f
+use Rattle.fr_plain.specs.BlockNames.{first_repeat, first_unknown, has_unknown, unknown_fault, repeat_fault, names_fault}
+use Rattle.fr_eval.specs.NamePlaces.{Table, HasPlaces, has_placeless, first_placeless}
 
 bytes_same : (m n : List ℕ) → bytes_eq m n ≡ true → m ≡ n
 bytes_same m n e = (bytes_eq-Decides m n).0 e
@@ -86,3 +88,38 @@ module _ (rs : List Recursion) (i : ℕ) (d : Recursion) (l : i < length rs) whe
       entered true (Some k) o e h = let no = h refl in cc
       entered false None o e h = e
       entered false (Some k) o e h = e
+
+-- a test that is the same at each element
+any_same : {A : Type 0} (p q : A → Bool) (xs : List A) → ((x : A) → p x ≡ q x) → list_any p xs ≡ list_any q xs
+any_same p q [] e = refl
+any_same p q (x ∷ xs) e = ap (λ b. b || list_any p xs) (e x) ∙ ap (λ b. q x || b) (any_same p q xs e)
+
+-- the unknown names are those without a place
+first_placeless-same : (names : List (List ℕ)) (table : Table) → HasPlaces names table → (rs : List Recursion) → first_placeless table rs ≡ first_unknown names rs
+first_placeless-same names table h [] = refl
+first_placeless-same names table h (r ∷ rs) =
+    ap (λ b. if b then Some r.line else first_placeless table rs) (any_same (has_placeless table) (has_unknown names) r.sections (λ word. any_same _ _ word (λ s. ap not (ap is_some (h s.name) ∙ sym (list_any-place names s.name)))))
+    ∙ ap (λ o. if list_any (has_unknown names) r.sections then Some r.line else o) (first_placeless-same names table h rs)
+
+-- the faults of the names of a block
+pub repeated_fault : (rs : List Recursion) (line : ℕ) → first_repeat [] rs ≡ Some line → names_fault rs ≡ Some (record { line = line; kind = f.NameTaken })
+repeated_fault rs line e = ap (repeat_fault rs) e
+
+pub placeless_fault : (rs : List Recursion) (table : Table) (line : ℕ) → first_repeat [] rs ≡ None → HasPlaces (names_of rs) table → first_placeless table rs ≡ Some line
+    → names_fault rs ≡ Some (record { line = line; kind = f.UnknownName })
+placeless_fault rs table line d h e = ap (repeat_fault rs) d ∙ ap unknown_fault (sym (first_placeless-same (names_of rs) table h rs) ∙ e)
+
+pub no_fault : (rs : List Recursion) (table : Table) → first_repeat [] rs ≡ None → HasPlaces (names_of rs) table → first_placeless table rs ≡ None → names_fault rs ≡ None
+no_fault rs table d h e = ap (repeat_fault rs) d ∙ ap unknown_fault (sym (first_placeless-same (names_of rs) table h rs) ∙ e)
+
+-- without a fault no name is unknown
+pub all_known : (rs : List Recursion) → names_fault rs ≡ None → first_unknown (names_of rs) rs ≡ None
+all_known rs e = second (first_unknown (names_of rs) rs) (first (first_repeat [] rs) e)
+  where
+    first : (o : Option ℕ) → repeat_fault rs o ≡ None → unknown_fault (first_unknown (names_of rs) rs) ≡ None
+    first (Some line) e = cc
+    first None e = e
+
+    second : (o : Option ℕ) → unknown_fault o ≡ None → o ≡ None
+    second (Some line) e = cc
+    second None e = refl

@@ -1,10 +1,7 @@
-pub mod Sections
-pub mod BlockFaults
-pub mod Plain
-pub mod PlainScripts
-pub mod Tables
-pub mod Names
-pub mod Built
-pub mod BlockRows
-pub mod Places
-pub mod Gives
+pub mod Bindings
+pub mod Telling
+pub mod NamePlaces
+pub mod Entering
+pub mod Concluding
+pub mod Orders
+pub mod Generators

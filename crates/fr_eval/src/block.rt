@@ -1,161 +1,82 @@
-//! The machine of a block, and what may be wrong with its names.
+//! Blocks as they are read, and as their elements are found.
 
-ghost use Rattle.std.specs.Prelude.{◌≡◌, ◌+◌, ◌<◌, ◌≤◌, ◌^◌, ℕ, Some, None, IfOk, length, not, is_some};
-ghost use Rattle.std.specs.List.{list_any, list_all};
-ghost use Rattle.std.specs.Str.{bytes_eq};
-ghost use Rattle.fr_model.specs.Terms.{Name, IsAlike};
-ghost use Rattle.fr_machine.specs.Rows.{row_term};
+ghost use Rattle.std.specs.Prelude.{◌≡◌, ◌≤◌, None, IfOk, IsSome, length, map};
+ghost use Rattle.std.specs.List.{All};
+ghost use Rattle.fr_syntax.specs.Fits.{FitsRecursion};
+ghost use Rattle.fr_block.specs.Blocks.{factor_of, product_of, wreath_of};
 ghost use Rattle.fr_plain.specs.Blocks.{names_of, block_system};
-ghost use Rattle.fr_plain.specs.BlockNames.{has_unknown, first_unknown};
-ghost use Rattle.fr_eval.specs.Sections.{is_letter_section, is_built};
-ghost use Rattle.fr_eval.specs.BlockRows.{next_of, row_from, one_row, block_rows};
-ghost use Rattle.fr_eval.specs.Built.{IsBuiltBlock};
-ghost use Rattle.fr_eval.specs.Names.{HasPlaces};
+ghost use Rattle.fr_plain.specs.BlockNames.{names_fault};
+ghost use Rattle.fr_eval.specs.NamePlaces.{place_at, HasPlaces, ArePlaced, placed, placed_recursion};
 
-use crate::names::{NamePlaces, place};
-use fr_alphabet::{Alphabet, NoMemory, Perm};
-use fr_machine::{Machine, Row};
+use crate::names::NamePlaces;
+use fr_alphabet::{Alphabet, NoMemory};
+use fr_block::{Block, Factor, Wreath};
 use fr_syntax::{Recursion, SecName};
+use sqlite_items::Items;
 use std::alloc::Global;
 
-/// Whether a name is one of the block's.
-fn is_known(places: &NamePlaces<'_>, block: &[Recursion], name: &[u8]) -> bool
-    requires { HasPlaces (names_of block.now) places.now }
-    ensures { result ≡ list_any (λ n. bytes_eq n name.now) (names_of block.now) }
-{
-    place(places, name).is_some()
-}
-
-/// Whether a section has a name that is none of them.
-fn is_unknown(places: &NamePlaces<'_>, block: &[Recursion], section: &[SecName]) -> bool
-    requires { HasPlaces (names_of block.now) places.now }
-    ensures { result ≡ has_unknown (names_of block.now) section.now }
-{
-    section
-        .iter()
-        .any(|s| !is_known(places, block, s.name.bytes()))
-}
-
-/// Whether a line has such a section.
-fn has_unknown(places: &NamePlaces<'_>, block: &[Recursion], recursion: &Recursion) -> bool
-    requires { HasPlaces (names_of block.now) places.now }
-    ensures { result ≡ list_any (has_unknown (names_of block.now)) recursion.now.sections }
-{
-    recursion
-        .sections
-        .as_slice()
-        .iter()
-        .any(|section| is_unknown(places, block, section.names()))
-}
-
-/// The first line with such a section.
-pub fn first_unknown(places: &NamePlaces<'_>, block: &[Recursion]) -> Option<u32>
-    requires { HasPlaces (names_of block.now) places.now }
-    ensures { result ≡ first_unknown (names_of block.now) block.now }
-{
-    for recursion in block {
-        if has_unknown(places, block, recursion) {
-            return Some(recursion.line);
-        }
-    }
-    None
-}
-
-/// Whether a section is 1 or one name.
-fn is_letter_section(section: &[SecName]) -> bool
-    ensures { result ≡ is_letter_section section.now }
-{
-    match section {
-        [] => true,
-        [only] => !only.inverse,
-        _ => false,
-    }
-}
-
-/// Whether the sections of a line are.
-fn is_built_line(recursion: &Recursion) -> bool
-    ensures { result ≡ list_all is_letter_section recursion.now.sections }
-{
-    recursion
-        .sections
-        .as_slice()
-        .iter()
-        .all(|section| is_letter_section(section.names()))
-}
-
-/// Whether those of all lines are.
-pub fn is_built(block: &[Recursion]) -> bool
-    ensures { result ≡ is_built block.now }
-{
-    block.iter().all(|recursion| is_built_line(recursion))
-}
-
-/// The row of a section: that of its name, and the last row for 1.
-fn next_row(places: &NamePlaces<'_>, block: &[Recursion], section: &[SecName]) -> u16
-    requires places { HasPlaces (names_of block.now) places.now }
-    requires most { length block.now < 2 ^ 16 }
-    ensures { result ≡ next_of (names_of block.now) section.now }
-{
-    let one = block.len() as u16;
-    match section {
-        [] => one,
-        [first, ..] => place(places, first.name.bytes()).unwrap_or(one),
-    }
-}
-
-/// The row of a line.
-fn row_of(places: &NamePlaces<'_>, block: &[Recursion], recursion: &Recursion) -> Row
-    requires places { HasPlaces (names_of block.now) places.now }
-    requires most { length block.now < 2 ^ 16 }
-    requires letters { length recursion.now.sections ≤ 8 }
-    ensures { result ≡ row_from (names_of block.now) recursion.now }
-{
-    let mut next = [0; 8];
-    for (k, section) in recursion.sections.as_slice().iter().enumerate() {
-        next[k] = next_row(places, block, section.names());
-    }
-    Row {
-        perm: recursion.perm,
-        next,
-    }
-}
-
-/// The row of the identity.
-fn one_row(a: Alphabet, block: &[Recursion]) -> Row
-    requires { length block.now < 2 ^ 16 }
-    ensures value { result ≡ one_row a (names_of block.now) }
-    ensures few { 2 ≤ a }
-    ensures most { a ≤ 8 }
-{
-    let one = block.len() as u16;
-    let mut next = [0; 8];
-    for k in 0..a.letters() as usize {
-        next[k] = one;
-    }
-    Row {
-        perm: Perm::identity(a),
-        next,
-    }
-}
-
-/// The machine of a block over an alphabet: row k stands for the k-th name, counted from 0, and the last row for 1.
-pub fn machine_of(
+/// The block of recursions over an alphabet whose names have no fault, with the places of the names. A name is the place of
+/// its line, from 0. The only error is want of memory.
+pub fn block_of(
     alloc: Global,
     a: Alphabet,
     places: &NamePlaces<'_>,
     block: &[Recursion],
-) -> Result<Machine, NoMemory>
+) -> Result<Block, NoMemory>
     requires places { HasPlaces (names_of block.now) places.now }
-    requires built { IsBuiltBlock a block.now }
-    requires most { length block.now < 2 ^ 16 }
-    ensures alphabet { IfOk result (λ m. m.alphabet ≡ a) }
-    ensures count { IfOk result (λ m. length m.rows ≡ length block.now + 1) }
-    ensures names { IfOk result (λ m. (k : ℕ) → k < length block.now → IsAlike (row_term m.rows k) (Name (block_system block.now) k)) }
+    requires names { names_fault block.now ≡ None }
+    requires lines { All (FitsRecursion a) block.now }
+    requires most { length block.now ≤ 4095 }
+    ensures { IfOk result (λ b. b ≡ record { alphabet = a; system = block_system block.now }) }
 {
-    let mut rows = Vec::with_capacity(alloc, block.len() + 1)?;
+    // For the proof: an alphabet has 2 to 8 letters.
+    let _letters = a.letters();
+    let mut wreaths = Vec::with_capacity(alloc, block.len())?;
     for recursion in block {
-        rows.push(row_of(places, block, recursion))?;
+        wreaths.push(wreath(alloc, places, recursion)?)?;
     }
-    rows.push(one_row(a, block))?;
-    Ok(Machine::from_rows(a, rows))
+    Ok(Block::from_wreaths(a, wreaths))
+}
+
+// The wreath recursion of a line.
+fn wreath(alloc: Global, places: &NamePlaces<'_>, recursion: &Recursion) -> Result<Wreath, NoMemory>
+    requires { All (ArePlaced places.now) recursion.now.sections }
+    ensures { IfOk result (λ w. wreath_of w ≡ placed_recursion places.now recursion.now) }
+{
+    let words = recursion.sections.as_slice();
+    let mut sections = Vec::with_capacity(alloc, words.len())?;
+    for word in words {
+        sections.push(product(alloc, places, word.names())?)?;
+    }
+    Ok(Wreath {
+        perm: recursion.perm,
+        sections,
+    })
+}
+
+// The product of a section.
+fn product(
+    alloc: Global,
+    places: &NamePlaces<'_>,
+    word: &[SecName],
+) -> Result<Vec<Factor>, NoMemory>
+    requires { ArePlaced places.now word.now }
+    ensures { IfOk result (λ factors. product_of factors.items ≡ map (placed places.now) word.now) }
+{
+    let mut factors = Vec::with_capacity(alloc, word.len())?;
+    for s in word {
+        factors.push(factor(places, s))?;
+    }
+    Ok(factors)
+}
+
+// The factor of a name of a section or of its inverse.
+fn factor(places: &NamePlaces<'_>, s: &SecName) -> Factor
+    requires { IsSome (place_at places.now s.now.name) }
+    ensures { factor_of result ≡ placed places.now s.now }
+{
+    Factor {
+        name: places[s.name.bytes()],
+        inverse: s.inverse,
+    }
 }

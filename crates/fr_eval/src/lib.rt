@@ -1,14 +1,17 @@
-//! The evaluation of scripts.
+//! The evaluation of statements over any store of elements.
 #![tactic(auto)]
 
+mod answers;
 mod block;
-mod env;
-mod faults;
-mod laws;
+mod definitions;
+mod ends;
+mod entering;
 mod names;
-mod scripts;
-#[cfg(test)]
-mod tests;
+mod nucleus;
+mod order;
+mod rows;
+mod texts;
 
-pub use laws::plain_texts_are_determined;
-pub use scripts::{Evaluation, evaluate};
+pub use answers::ask;
+pub use definitions::define;
+pub use ends::{LineEnd, Stop};

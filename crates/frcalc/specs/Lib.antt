@@ -1,1 +1,4 @@
+pub mod Evaluations
+pub mod Items
 pub mod Program
+pub mod Words

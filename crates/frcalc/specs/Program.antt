@@ -1,12 +1,14 @@
 -- When the program ends with each status, and what it leaves. What is said of bytes that were taken or written binds
 -- where the source or the sink tells its bytes.
-use Rattle.std.specs.Prelude.{◌≡◌, ◌⊎◌, ℕ, ◌<◌, ◌≤◌, List, [], length, Bool, true, false, Option, Some, if◌then◌else◌, codes}
+use Rattle.std.specs.Prelude.{◌≡◌, ◌⊎◌, ℕ, ◌<◌, ◌≤◌, List, [], ◌++◌, length, Bool, true, false, Option, Some, None, IsSome, if◌then◌else◌, codes}
+use Rattle.std.specs.Fmt.{decimal}
 use Rattle.fr_io.specs.Causes.{Rose}
 use Rattle.fr_io.specs.Taken.{TookAll, TookFew, TookSome, TookTooMany, Gave, GavePart}
 use Rattle.fr_script.specs.Scripts.{lines_of}
-use Rattle.fr_eval.specs.PlainScripts.{IsPlain}
+use Rattle.fr_plain.specs.Plain.{IsPlain}
+use Rattle.fr_plain.specs.Beginnings.{PassesCharge}
 use Rattle.frcalc.specs.declared.program.Ending.{Ending}
-use Rattle.frcalc.specs.declared.program.Ending.TheVariants.{Fine, Refused, Usage, ReadFailed, WriteFailed, TooLong, NoMemory}
+use Rattle.frcalc.specs.declared.program.Ending.TheVariants.{Fine, Refused, Usage, ReadFailed, WriteFailed, TooLong, StatesPassed, NoMemory}
 
 -- what the source and the sink tell and have counted at a moment
 pub record Sides : Type 0 where
@@ -29,23 +31,34 @@ pub record IsRead (old new : Sides) (script : List ℕ) : Type 0 where
   pub took : TookAll 1048576 old.left new.left script
   pub few_lines : length (lines_of script) ≤ 4096
 
--- what was written grew by the text of the script by plain evaluation, and by nothing else
-pub record IsWhole (refused : Bool) (old new : Sides) : Type 0 where
+-- what was written grew by the text of the script by plain evaluation, and by nothing else; its charge is at most the limit
+pub record IsWhole (limit : ℕ) (refused : Bool) (old new : Sides) : Type 0 where
   pub script : List ℕ
   pub text : List ℕ
+  pub charge : ℕ
   pub read : IsRead old new script
-  pub plain : IsPlain script text refused
+  pub plain : IsPlain script text refused charge
+  pub within : charge ≤ limit
   pub gave : Gave old.written new.written text
 
 -- it grew by a part of that text, and a write failed
-pub record IsCut (old new : Sides) : Type 0 where
+pub record IsCut (limit : ℕ) (old new : Sides) : Type 0 where
   pub script : List ℕ
   pub text : List ℕ
   pub refused : Bool
+  pub charge : ℕ
   pub read : IsRead old new script
-  pub plain : IsPlain script text refused
+  pub plain : IsPlain script text refused charge
+  pub within : charge ≤ limit
   pub gave : GavePart old.written new.written text
   pub rose : Rose old.write_faults new.write_faults
+
+-- the script was read, and its charge is more than the limit
+pub record IsDear (limit : ℕ) (old new : Sides) : Type 0 where
+  pub script : List ℕ
+  pub read : IsRead old new script
+  pub passes : PassesCharge script limit
+  pub unwritten : IsUnwritten old new
 
 -- a read failed
 pub record IsUnread (old new : Sides) : Type 0 where
@@ -69,15 +82,16 @@ pub record IsGivenUp (old new : Sides) : Type 0 where
   pub took : TookSome old.left new.left
   pub unwritten : IsUnwritten old new
 
--- the cause of each ending
-abbrev pub Causes : Ending → Bool → Sides → Sides → Type 0
-Causes Fine accepted old new = (accepted ≡ true) × IsWhole false old new
-Causes Refused accepted old new = (accepted ≡ true) × IsWhole true old new
-Causes Usage accepted old new = (accepted ≡ false) × (new ≡ old)
-Causes ReadFailed accepted old new = (accepted ≡ true) × IsUnread old new
-Causes WriteFailed accepted old new = (accepted ≡ true) × IsCut old new
-Causes TooLong accepted old new = (accepted ≡ true) × IsTooLong old new
-Causes NoMemory accepted old new = IsGivenUp old new
+-- the cause of each ending, where the words give this limit of the charge or are not accepted
+abbrev pub Causes : Ending → Option ℕ → Sides → Sides → Type 0
+Causes Fine limit old new = (n : ℕ) × (limit ≡ Some n) × IsWhole n false old new
+Causes Refused limit old new = (n : ℕ) × (limit ≡ Some n) × IsWhole n true old new
+Causes Usage limit old new = (limit ≡ None) × (new ≡ old)
+Causes ReadFailed limit old new = IsSome limit × IsUnread old new
+Causes WriteFailed limit old new = (n : ℕ) × (limit ≡ Some n) × IsCut n old new
+Causes TooLong limit old new = IsSome limit × IsTooLong old new
+Causes (StatesPassed n) limit old new = (limit ≡ Some n) × IsDear n old new
+Causes NoMemory limit old new = IsGivenUp old new
 
 abbrev pub status_of : Ending → ℕ
 status_of Fine = 0
@@ -86,15 +100,28 @@ status_of Usage = 2
 status_of ReadFailed = 3
 status_of WriteFailed = 4
 status_of TooLong = 5
+status_of (StatesPassed n) = 6
 status_of NoMemory = 7
+
+-- what is said of an ending, up to the number where one is said
+abbrev pub front_of : Ending → List ℕ
+front_of Fine = []
+front_of Refused = []
+front_of Usage = codes "frcalc: usage: frcalc [--states N]\n"
+front_of ReadFailed = codes "frcalc: read failed\n"
+front_of WriteFailed = codes "frcalc: write failed\n"
+front_of TooLong = codes "frcalc: script too long\n"
+front_of (StatesPassed n) = codes "frcalc: states pass "
+front_of NoMemory = codes "frcalc: out of memory\n"
 
 abbrev pub message_of : Ending → List ℕ
 message_of Fine = []
 message_of Refused = []
-message_of Usage = codes "frcalc: usage: frcalc\n"
+message_of Usage = codes "frcalc: usage: frcalc [--states N]\n"
 message_of ReadFailed = codes "frcalc: read failed\n"
 message_of WriteFailed = codes "frcalc: write failed\n"
 message_of TooLong = codes "frcalc: script too long\n"
+message_of (StatesPassed n) = codes "frcalc: states pass " ++ decimal n ++ codes "\n"
 message_of NoMemory = codes "frcalc: out of memory\n"
 
 -- the message, or a part of it where a fault was counted
@@ -102,21 +129,28 @@ abbrev pub Says : List ℕ → Option (List ℕ) → Option (List ℕ) → ℕ �
 Says message old new before now = Gave old new message ⊎ (GavePart old new message × Rose before now)
 
 -- the status has its cause, and `err` grew by its message, or by a part of it where a fault was counted
-pub record Ends (status : ℕ) (accepted : Bool) (old new : Sides) (told told_after : Option (List ℕ)) (faults faults_after : ℕ) : Type 0 where
+pub record Ends (status : ℕ) (limit : Option ℕ) (old new : Sides) (told told_after : Option (List ℕ)) (faults faults_after : ℕ) : Type 0 where
   pub ending : Ending
   pub status_is : status ≡ status_of ending
-  pub cause : Causes ending accepted old new
+  pub cause : Causes ending limit old new
   pub says : Says (message_of ending) told told_after faults faults_after
 
 -- the status is 0 or 1, and the whole text was written
 pub record IsComplete (status : ℕ) (script : List ℕ) (old new : Sides) : Type 0 where
   pub text : List ℕ
   pub refused : Bool
-  pub plain : IsPlain script text refused
+  pub charge : ℕ
+  pub plain : IsPlain script text refused charge
   pub status_is : status ≡ (if refused then 1 else 0)
   pub gave : Gave old.written new.written text
 
--- accepted words, a source that tells a script that is not too long, and no fault: the whole text, or want of memory
-abbrev pub Completes : ℕ → Bool → Sides → Sides → Type 0
-Completes status accepted old new = (script : List ℕ) → accepted ≡ true → old.left ≡ Some script → length script ≤ 1048576 → length (lines_of script) ≤ 4096
-    → ¬ Rose old.read_faults new.read_faults → ¬ Rose old.write_faults new.write_faults → IsComplete status script old new ⊎ (status ≡ 7)
+-- accepted words, a source that tells a script that is not too long and not charged more than the limit, and no fault: the
+-- whole text, or want of memory
+abbrev pub Completes : ℕ → Option ℕ → Sides → Sides → Type 0
+Completes status limit old new = (script : List ℕ) (n : ℕ) → limit ≡ Some n → old.left ≡ Some script → length script ≤ 1048576 → length (lines_of script) ≤ 4096
+    → ¬ PassesCharge script n → ¬ Rose old.read_faults new.read_faults → ¬ Rose old.write_faults new.write_faults → IsComplete status script old new ⊎ (status ≡ 7)
+
+-- the same with a script that is charged more: status 6, or want of memory
+abbrev pub Passes : ℕ → Option ℕ → Sides → Sides → Type 0
+Passes status limit old new = (script : List ℕ) (n : ℕ) → limit ≡ Some n → old.left ≡ Some script → length script ≤ 1048576 → length (lines_of script) ≤ 4096
+    → PassesCharge script n → ¬ Rose old.read_faults new.read_faults → (status ≡ 6) ⊎ (status ≡ 7)

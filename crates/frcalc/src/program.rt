@@ -1,11 +1,16 @@
 //! The program over sources and sinks.
 
-ghost use Rattle.std.specs.Prelude.{◌≡◌, ◌==◌, length};
-ghost use Rattle.frcalc.specs.Program.{sides_of, Causes, Completes, Ends, Says, message_of, status_of};
+ghost use Rattle.std.specs.Prelude.{◌≡◌, ◌+◌, ◌≤◌, ◌++◌, length, map};
+ghost use Rattle.arrayvec.specs.ArrayVec.{array_vec_len};
+ghost use Rattle.frcalc.specs.Words.{limit_of};
+ghost use Rattle.frcalc.specs.Program.{sides_of, Causes, Completes, Passes, Ends, Says, message_of, front_of, status_of};
 
-use fr_eval::evaluate;
+use crate::evaluation::{EvaluationFault, evaluate};
+use crate::words::limit;
+use arrayvec::ArrayVec;
 use fr_io::{Failed, ReadStop, Sink, Source, get_all, put_all};
 use fr_script::{ScriptFault, read_script};
+use itoa::Buffer;
 use std::alloc::Global;
 
 /// The most bytes of a script.
@@ -26,13 +31,17 @@ pub enum Ending {
     WriteFailed,
     /// The script has too many bytes or lines: status 5.
     TooLong,
+    /// The charge of the script is more than this limit: status 6.
+    StatesPassed(u32),
     /// There was no memory: status 7.
     NoMemory,
 }
 
 /// Reads a script from `input`, writes its text to `out`, and says on `err` why it did not.
 ///
-/// `words` are those after the program's name; none is accepted yet. Answers the status.
+/// `words` are those after the program's name: none, or `--states N` for a limit of the charge from 1 to 1,048,576. Answers
+/// the status. Where several hold, the words are refused before a read fails or a script is too long, these before the
+/// charge passes the limit, and this before a write fails.
 pub fn run<S: Source, T: Sink, E: Sink>(
     alloc: Global,
     words: &[String],
@@ -40,9 +49,11 @@ pub fn run<S: Source, T: Sink, E: Sink>(
     out: &mut T,
     err: &mut E,
 ) -> u8
-    ensures ends { Ends result (length words.now == 0) (sides_of S.left S.faults T.written T.faults input.old out.old)
+    ensures ends { Ends result (limit_of (map (λ w. w.bytes.items) words.now)) (sides_of S.left S.faults T.written T.faults input.old out.old)
         (sides_of S.left S.faults T.written T.faults input.new out.new) (E.written err.old) (E.written err.new) (E.faults err.old) (E.faults err.new) }
-    ensures completes { Completes result (length words.now == 0) (sides_of S.left S.faults T.written T.faults input.old out.old)
+    ensures completes { Completes result (limit_of (map (λ w. w.bytes.items) words.now)) (sides_of S.left S.faults T.written T.faults input.old out.old)
+        (sides_of S.left S.faults T.written T.faults input.new out.new) }
+    ensures passes { Passes result (limit_of (map (λ w. w.bytes.items) words.now)) (sides_of S.left S.faults T.written T.faults input.old out.old)
         (sides_of S.left S.faults T.written T.faults input.new out.new) }
 {
     close(work(alloc, words, input, out), err)
@@ -54,25 +65,49 @@ pub fn close<E: Sink>(ending: Ending, err: &mut E) -> u8
     ensures says { Says (message_of ending) (E.written err.old) (E.written err.new) (E.faults err.old) (E.faults err.new) }
 {
     // A message that fails changes nothing.
-    let _ = put_all(err, message(ending));
+    let _ = put_all(err, &message(ending));
     status(ending)
 }
 
-/// What is said of an ending.
-fn message(ending: Ending) -> &'static [u8]
-    ensures { result.now ≡ message_of ending }
+// What is said of an ending. It takes no memory, so that it can be said where there is none.
+fn message(ending: Ending) -> ArrayVec<u8, 64>
+    ensures { result.items ≡ message_of ending }
+{
+    let mut text = ArrayVec::new();
+    append(&mut text, front(ending));
+    if let Ending::StatesPassed(limit) = ending {
+        append(&mut text, Buffer::new().format(limit).as_bytes());
+        append(&mut text, b"\n");
+    }
+    text
+}
+
+// Appends bytes for which there is room.
+fn append(text: &mut ArrayVec<u8, 64>, bytes: &[u8])
+    requires { array_vec_len text.old + length bytes.now ≤ 64 }
+    ensures items { text.new.items ≡ text.old.items ++ bytes.now }
+    ensures len { array_vec_len text.new ≡ array_vec_len text.old + length bytes.now }
+{
+    let _fits = text.try_extend_from_slice(bytes);
+}
+
+// What is said of an ending, up to a number that is said.
+fn front(ending: Ending) -> &'static [u8]
+    ensures front { result.now ≡ front_of ending }
+    ensures short { length result.now ≤ 36 }
 {
     match ending {
         Ending::Fine | Ending::Refused => b"",
-        Ending::Usage => b"frcalc: usage: frcalc\n",
+        Ending::Usage => b"frcalc: usage: frcalc [--states N]\n",
         Ending::ReadFailed => b"frcalc: read failed\n",
         Ending::WriteFailed => b"frcalc: write failed\n",
         Ending::TooLong => b"frcalc: script too long\n",
+        Ending::StatesPassed(_) => b"frcalc: states pass ",
         Ending::NoMemory => b"frcalc: out of memory\n",
     }
 }
 
-/// The status of an ending.
+// The status of an ending.
 fn status(ending: Ending) -> u8
     ensures { result ≡ status_of ending }
 {
@@ -83,18 +118,19 @@ fn status(ending: Ending) -> u8
         Ending::ReadFailed => 3,
         Ending::WriteFailed => 4,
         Ending::TooLong => 5,
+        Ending::StatesPassed(_) => 6,
         Ending::NoMemory => 7,
     }
 }
 
-/// Reads, evaluates and writes.
+// Reads, evaluates and writes.
 fn work<S: Source, T: Sink>(alloc: Global, words: &[String], input: &mut S, out: &mut T) -> Ending
-    ensures { Causes result (length words.now == 0) (sides_of S.left S.faults T.written T.faults input.old out.old)
+    ensures { Causes result (limit_of (map (λ w. w.bytes.items) words.now)) (sides_of S.left S.faults T.written T.faults input.old out.old)
         (sides_of S.left S.faults T.written T.faults input.new out.new) }
 {
-    if !words.is_empty() {
+    let Some(limit) = limit(words) else {
         return Ending::Usage;
-    }
+    };
     let bytes = match get_all(alloc, input, SCRIPT_LIMIT) {
         Ok(bytes) => bytes,
         Err(ReadStop::Failed) => return Ending::ReadFailed,
@@ -106,9 +142,10 @@ fn work<S: Source, T: Sink>(alloc: Global, words: &[String], input: &mut S, out:
         Err(ScriptFault::LinesPassed) => return Ending::TooLong,
         Err(ScriptFault::NoMemory) => return Ending::NoMemory,
     };
-    let evaluation = match evaluate(alloc, &script) {
+    let evaluation = match evaluate(alloc, &script, limit) {
         Ok(evaluation) => evaluation,
-        Err(_) => return Ending::NoMemory,
+        Err(EvaluationFault::StatesPassed) => return Ending::StatesPassed(limit),
+        Err(EvaluationFault::NoMemory) => return Ending::NoMemory,
     };
     match put_all(out, &evaluation.text) {
         Err(Failed) => Ending::WriteFailed,

@@ -1,0 +1,10 @@
+pub mod NameLaws
+pub mod BindingLaws
+pub mod EvaluationLaws
+pub mod ProductLaws
+pub mod RestrictionLaws
+pub mod PowerLaws
+pub mod ExpansionLaws
+pub mod FitLaws
+pub mod ScopeLaws
+pub mod SequenceLaws
