@@ -1,0 +1,5 @@
+pub mod Places
+pub mod Packs
+pub mod Meaning
+pub mod Entries
+pub mod Laws

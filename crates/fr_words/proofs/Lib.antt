@@ -1,0 +1,17 @@
+pub mod Members
+pub mod Covering
+pub mod Steps
+pub mod Loads
+pub mod Claiming
+pub mod Filling
+pub mod Knowing
+pub mod Entering
+pub mod Linking
+pub mod Meeting
+pub mod Products
+pub mod Allowed
+pub mod Calls
+pub mod Told
+pub mod Learned
+pub mod Counts
+pub mod Pigeons

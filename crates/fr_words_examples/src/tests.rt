@@ -1,0 +1,27 @@
+use crate::{cache_square, publish_row};
+use fr_alphabet::{Alphabet, Perm};
+use fr_canon::{Code, Scratch};
+use fr_machine::Row;
+use fr_words::Words;
+use std::test::Fail;
+
+#[test]
+fn the_identity_is_published(rt: HostRuntime) -> Result<(), Fail> {
+    let Some(a) = Alphabet::new(2) else {
+        panic!(rt; "two letters are an alphabet")
+    };
+    let (words, mut hand) = Words::new(rt.alloc(), a, 4)?;
+    let mut scratch = Scratch::new(rt.alloc())?;
+    let mut code = Code::new(rt.alloc())?;
+    let identity = Row {
+        perm: Perm::identity(a),
+        next: [0; 8],
+    };
+    assert!(rt; publish_row(&mut scratch, &mut code, a, &identity, &words, &mut hand));
+    assert_eq!(rt; cache_square(&identity, &words, &mut hand), 0);
+    assert_eq!(rt; hand.cache_word(&words, 0), 1);
+    assert_eq!(rt; hand.cell(&words, 0), 1);
+    assert_eq!(rt; hand.link(&words, 0), 1);
+    assert_eq!(rt; hand.row_word(&words, 0, 2), 1);
+    Ok(())
+}
