@@ -15,7 +15,7 @@ use Rattle.fr_machine.proofs.RowLaws.{IsAutomaton-states_of}
 use Rattle.fr_layout.specs.declared.plan.Plan.{Plan}
 use Rattle.fr_layout.specs.declared.plan.Block.{Block}
 use Rattle.fr_layout.specs.Places.{field_at, IsIn}
-use Rattle.fr_layout.specs.Meaning.{field_value, block_states, row_meaning, IsGood, IsReduced, IsSpelled, AreSpelled}
+use Rattle.fr_layout.specs.Meaning.{field_value, block_states, row_meaning, SameMeaning, IsGood, IsReduced, IsSpelled, AreSpelled}
 use Rattle.fr_layout.specs.Laws.{BlocksAreMachines}
 use Rattle.fr_layout.proofs.Automata.{spelled}
 
@@ -72,10 +72,19 @@ module _ (p : Plan) (W : ℕ → ℕ) (b : Block) (rows : List Row) (m : IsMachi
       same : IsAlike (row_term rows (r - b.start)) (row_term rows (q - b.start))
       same = subst (λ (x : Term × Term). IsAlike x.0 x.1) (λ k. (meaning_is r k, meaning_is q k)) alike
 
+  pub reduced_back : IsReduced p W b → AreUnlike rows
+  reduced_back reduced i j less small alike = absurd (let e = reduced (b.start + i) (b.start + j) (omega arith, omega arith) (omega arith, omega arith) same in omega arith)
+    where
+      place : (k : ℕ) → row_meaning p W b (b.start + k) ≡ row_term rows k
+      place k = meaning_is (b.start + k) ∙ ap (row_term rows) (let e : (b.start + k) - b.start ≡ k = omega arith in e)
+
+      same : SameMeaning p W b (b.start + i) b (b.start + j)
+      same = subst (λ (x : Term × Term). IsAlike x.0 x.1) (λ k. (sym (place i) k, sym (place j) k)) alike
+
 pub machines : BlocksAreMachines
 machines = record {
   automaton = automaton_is;
   meaning = λ p W b rows r m count says. meaning_is p W b rows m count says r;
-  reduced = reduced_from;
+  reduced = λ p W b rows m count says. (reduced_from p W b rows m count says, reduced_back p W b rows m count says);
   good = λ d b rows r f m count i l. good d b rows m count r f i l;
 }

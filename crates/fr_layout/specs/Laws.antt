@@ -50,7 +50,7 @@ pub record BlocksAreMachines : Type 0 where
   pub automaton : (p : Plan) (W : ℕ → ℕ) (b : Block) (rows : List Row) → IsMachine p.letters rows → length rows ≡ b.size → AreSpelled p W b rows → block_states p W b ≡ states_of rows
   pub meaning : (p : Plan) (W : ℕ → ℕ) (b : Block) (rows : List Row) (r : ℕ) → IsMachine p.letters rows → length rows ≡ b.size → AreSpelled p W b rows → row_meaning p W b r ≡ row_term rows (r - b.start)
   -- its rows are pairwise unlike exactly where the machine's are
-  pub reduced : (p : Plan) (W : ℕ → ℕ) (b : Block) (rows : List Row) → IsMachine p.letters rows → length rows ≡ b.size → AreSpelled p W b rows → AreUnlike rows → IsReduced p W b
+  pub reduced : (p : Plan) (W : ℕ → ℕ) (b : Block) (rows : List Row) → IsMachine p.letters rows → length rows ≡ b.size → AreSpelled p W b rows → (AreUnlike rows → IsReduced p W b) × (IsReduced p W b → AreUnlike rows)
   -- and what stands in its fields may stand there
   pub good : (d : ℕ) (b : Block) (rows : List Row) (r f : ℕ) → IsMachine d rows → length rows ≡ b.size → IsIn r b → f ≤ d → (0 < field_value b.start (row_at rows (r - b.start)) f) × IsGood d b f (field_value b.start (row_at rows (r - b.start)) f)
 

@@ -1,7 +1,8 @@
 //! The laws of the layout and of what rows mean.
 ghost use Rattle.fr_layout.specs.Laws.{PlacesAreApart, PacksNameOneRow, BlocksAreAutomata, BlocksAreMachines, WrittenBlocksStay};
 
-/// Different fields, links, cells and cache words are different words, and all lie in the table.
+/// Different fields, links, cells and cache words are different words. The fields, links and cells
+/// lie before the cache.
 pub fn places_are_apart()
     ensures { PlacesAreApart }
 {}

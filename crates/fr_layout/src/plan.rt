@@ -42,7 +42,7 @@ impl Plan {
         }
     }
 
-    /// The number of words of the whole table, at most 12,648,449 and those of the cache.
+    /// The number of words of the whole table, those of the cache among them, at most 12,648,449.
     pub fn words(&self) -> usize
         requires plan { IsPlan self.now }
         ensures value { result ≡ word_count self.now + cache_size }

@@ -21,14 +21,14 @@ use Rattle.fr_words.proofs.Covering.{times_append}
 use Rattle.fr_words.proofs.Entering.{enter_kept}
 use Rattle.fr_words.proofs.Filling.{fill_kept, fill_was}
 use Rattle.fr_words.proofs.Linking.{link_kept}
-use Rattle.fr_words.proofs.Loads.{idle_kept, product_kept, saw_kept, wrote_kept}
+use Rattle.fr_words.proofs.Loads.{idle_kept, product_kept, saw_kept, learned_kept}
 use Rattle.fr_words.proofs.Meeting.{join_kept, split_kept, start_kept}
 use Rattle.fr_words.proofs.Products.{cached_stays, caches_now}
 use Rattle.fr_words.proofs.Steps.{set_there}
 use Rattle.fr_words.specs.Asks.{IsFinished, MayCache, MayEnter, MayFill, MayLink}
 use Rattle.fr_words.specs.Lawful.{IsLawful, Lawful, claims, enters_cell, fills, looks, meets, meets_cell, meets_product, sets_link, swaps}
 use Rattle.fr_words.specs.Members.{times}
-use Rattle.fr_words.specs.Notes.{claimed, entered, met, met_cell, met_product, missed_at, newcomer, parted, read_product, saw, spent, sprouted, ticked, united, wrote}
+use Rattle.fr_words.specs.Notes.{claimed, entered, learned, met, met_cell, met_product, missed_at, newcomer, parted, read_product, saw, spent, sprouted, ticked, united, wrote}
 use Rattle.fr_words.specs.Rule.{Kept, RuledBy, plain}
 use Rattle.fr_words.specs.declared.notes.Note.{Note}
 
@@ -115,7 +115,7 @@ module _ (p : Plan) where
       tell
 
   pub look_allows : (slots id : ℕ) (v : Note) (c : List (ℕ × ℕ)) → IsLive v.line → Allows (RuledBy p) slots id (v, c) 0 (λ n. n) (looks (step slots 0 0 0 none) (v, c))
-  look_allows slots id v c live = plain_load slots 0 id v c (saw v) (looks (step slots 0 0 0 none)) live (omega arith) (λ n. (refl, refl)) (λ V views k at. saw_kept p V views k id v at) (λ n a b. (refl, (a, b)))
+  look_allows slots id v c live = plain_load slots 0 id v c (saw v) (looks (step slots 0 0 0 none)) live (omega arith) (λ n. (refl, refl)) (λ V views k at. saw_kept p V views k id v at live) (λ n a b. (refl, (a, refl, b)))
 
   -- the step changes a word from 0, or raises the number of claimed rows
   grown : (s : State ℕ Note) → RuledBy p s → (i old new : ℕ) → i < word_count p → ((i ≡ 0) × (old ≤ new)) ⊎ (old ≡ 0) → words_of s i ≡ old → Grows (words_of s) (plain p (set s.words i new))
@@ -163,9 +163,9 @@ module _ (p : Plan) where
   pub claim_allows : (slots id old new : ℕ) (v : Note) (c : List (ℕ × ℕ)) → IsLive v.line → IsFinished p v → old < new → new ≤ old + 1024 → new ≤ p.capacity → Allows (RuledBy p) slots id (v, c) 0 (λ n. either (eqb n old) new n) (claims (step slots 0 old new none) (v, c))
   claim_allows slots id old new v c live finished up small room = exchange_allows slots 0 old new id v c (λ n. claimed v n new) (saw v) (claims (step slots 0 old new none)) live (omega arith) (λ n. (refl, refl)) (λ n. (refl, refl)) (inl (refl, omega arith))
       (λ V W views k at is is' same. subst (λ (x : ℕ × ℕ). Kept p W (set views id (claimed v x.0 x.1))) (λ j. (is j, is' j)) (claim_kept p V views k id v at W (λ i lo. same i (λ e. omega arith)) (omega arith) (omega arith) (omega arith) live finished))
-      (λ V views k at miss. saw_kept p V views k id v at)
-      (λ n hit a b. ((refl, refl, refl), (λ _. refl), (λ no. absurd (no hit)), (a, b)))
-      (λ n miss a b. ((refl, refl, refl), (λ hit. absurd (miss hit)), (λ _. refl), (a, b)))
+      (λ V views k at miss. saw_kept p V views k id v at live)
+      (λ n hit a b. ((refl, refl, refl), (λ _. refl), (λ no. absurd (no hit)), (a, refl, b)))
+      (λ n miss a b. ((refl, refl, refl), (λ hit. absurd (miss hit)), (λ _. refl), (a, refl, b)))
 
   pub fill_allows : (slots id : ℕ) (v : Note) (c : List (ℕ × ℕ)) (b : Block) (r f x : ℕ) → IsLive v.line → r < p.capacity → MayFill p v b r f x → Allows (RuledBy p) slots id (v, c) (field_at p r f) (λ _. x) (λ _. fills (step slots (field_at p r f) x 0 none) (v, c) x)
   fill_allows slots id v c b r f x live small asks s ruled deep at fits =
@@ -226,13 +226,17 @@ module _ (p : Plan) where
 
   -- a load of a cache word
   pub product_allows : (slots i j id : ℕ) (v : Note) (c : List (ℕ × ℕ)) → IsLive v.line → i ≡ cache_at p j → j < cache_size → Allows (RuledBy p) slots id (v, c) i (λ n. n) (meets_product (step slots i 0 0 none) (v, c))
-  product_allows slots i j id v c live is small = load_allows slots i id v c (met_product v i) (meets_product (step slots i 0 0 none)) live (omega arith) (λ n. same_plan n (nat_eq n 0)) kept_so (λ n a b. (refl, (a, last n (nat_eq n 0) b)))
+  product_allows slots i j id v c live is small = load_allows slots i id v c (met_product v i) (meets_product (step slots i 0 0 none)) live (omega arith) (λ n. same_plan n (nat_eq n 0)) kept_so (λ n a b. (refl, (a, named n (nat_eq n 0), last n (nat_eq n 0) b)))
     where
-      same_plan : (n : ℕ) (t : Bool) → (◌≡◌ {A = Plan} (if t then ticked v i n else read_product v i n).plan v.plan)
+      same_plan : (n : ℕ) (t : Bool) → (◌≡◌ {A = Plan} (if t then ticked v i n n else read_product v i n).plan v.plan)
       same_plan n true = refl
       same_plan n false = refl
 
-      last : (n : ℕ) (t : Bool) → Lawful (if t then ticked v i n else read_product v i n) i n → IsLawful (if t then ticked v i n else read_product v i n)
+      named : (n : ℕ) (t : Bool) → ◌≡◌ {A = ℕ} (if t then ticked v i n n else read_product v i n).found n
+      named n true = refl
+      named n false = refl
+
+      last : (n : ℕ) (t : Bool) → Lawful (if t then ticked v i n n else read_product v i n) i n → IsLawful (if t then ticked v i n n else read_product v i n)
       last n true h = h
       last n false h = h
 
@@ -245,13 +249,13 @@ module _ (p : Plan) where
         where
           go : (n : ℕ) → IsCached p (words_of s) n → Kept p (words_of s) (set s.views id (met_product v i n)) × Noted (words_of s) (met_product v i n)
           go n it = dite (ℕ_discrete n 0)
-              (λ e. subst (λ (t : Bool). KeptSo s id (if t then ticked v i n else read_product v i n)) (sym (eq-eqb n 0 e)) (idle_kept p (words_of s) s.views r.kept id v at v.gap i n, r.noted id v at))
-              (λ ne. subst (λ (t : Bool). KeptSo s id (if t then ticked v i n else read_product v i n)) (sym (ne_eqb n 0 ne)) (product_kept p (words_of s) s.views r.kept id v at i n, (λ x h. also (words_of s) x n (omega arith, it) (times x v.products) refl (λ e. r.noted id v at x e) h)))
+              (λ e. subst (λ (t : Bool). KeptSo s id (if t then ticked v i n n else read_product v i n)) (sym (eq-eqb n 0 e)) (idle_kept p (words_of s) s.views r.kept id v at live v.gap i n n, r.noted id v at))
+              (λ ne. subst (λ (t : Bool). KeptSo s id (if t then ticked v i n n else read_product v i n)) (sym (ne_eqb n 0 ne)) (product_kept p (words_of s) s.views r.kept id v at live i n, (λ x h. also (words_of s) x n (omega arith, it) (times x v.products) refl (λ e. r.noted id v at x e) h)))
 
   -- a swap of a cache word
   pub swap_allows : (slots i j new id : ℕ) (v : Note) (c : List (ℕ × ℕ)) → IsLive v.line → i ≡ cache_at p j → j < cache_size → MayCache p v new → Allows (RuledBy p) slots id (v, c) i (λ _. new) (swaps (step slots i new 0 none) (v, c))
   swap_allows slots i j new id v c live is small asks s r deep at fits =
-      let w : Note = ticked v i new in
+      let w : Note = ticked v i (slice_index s.words i) new in
       let V : ℕ → ℕ = words_of s in
       let W : ℕ → ℕ = plain p (set s.words i new) in
       let same_words : V ≡ W = λ q m. below_cache m (dec_le (suc m) (word_count p)) q in
@@ -259,7 +263,7 @@ module _ (p : Plan) where
       let plan = (r.kept.each id v at).planned live in
       let after : RuledBy p (after_step s i new id w) = record {
         wide = length-set s.words i new ∙ r.wide;
-        kept = subst (λ (X : ℕ → ℕ). Kept p X (set s.views id w)) same_words (idle_kept p V s.views r.kept id v at v.gap i new);
+        kept = subst (λ (X : ℕ → ℕ). Kept p X (set s.views id w)) same_words (idle_kept p V s.views r.kept id v at live v.gap i (slice_index s.words i) new);
         cached = λ e l. subst (λ (X : ℕ → ℕ). IsCached p X (slice_index (set s.words i new) (cache_at p e))) same_words (one_cached e l it);
         noted = subst (λ (X : ℕ → ℕ). (k : ℕ) (u : Note) → get_elem? (set s.views id w) k ≡ some u → Noted X u) same_words (noted_after V s.views id w (r.noted id v at) r.noted);
       } in (
@@ -267,7 +271,7 @@ module _ (p : Plan) where
         keeps,
         tt,
         after,
-        (refl, (lawful s r id v i (slice_index s.words i) at plan refl, lawful_after s i new id v w after at plan (let e = r.wide in omega arith))),
+        (refl, (lawful s r id v i (slice_index s.words i) at plan refl, refl, lawful_after s i new id v w after at plan (let e = r.wide in omega arith))),
       )
     where
       below_cache : (m : ℕ) → Dec (m < word_count p) → plain p s.words m ≡ plain p (set s.words i new) m
@@ -282,48 +286,56 @@ module _ (p : Plan) where
           (λ hit. subst (IsCached p (plain p s.words)) (sym (ap (λ (y : ℕ). slice_index (set s.words i new) y) hit ∙ get_or-set_same s.words i new 0 (let a = r.wide in omega arith))) it)
           (λ no. subst (IsCached p (plain p s.words)) (sym (get_or-set_other s.words i (cache_at p e) new 0 no)) (r.cached e l))
 
-  met_kept : (i id : ℕ) (v : Note) (V : ℕ → ℕ) (views : List Note) → 0 < i → i < word_count p → Kept p V views → get_elem? views id ≡ some v → Kept p V (set views id (met v i (V i)))
-  met_kept i id v V views lo inside kept at = dite (ℕ_discrete (V i) 0)
-      (λ e. subst (λ (t : Bool). Kept p V (set views id (if t then ticked v i (V i) else wrote v i (V i)))) (sym (eq-eqb (V i) 0 e)) (idle_kept p V views kept id v at v.gap i (V i)))
-      (λ ne. subst (λ (t : Bool). Kept p V (set views id (if t then ticked v i (V i) else wrote v i (V i)))) (sym (ne_eqb (V i) 0 ne)) (wrote_kept p V views kept id v at i lo inside (omega arith)))
+  met_kept : (i id : ℕ) (v : Note) (V : ℕ → ℕ) (views : List Note) → IsLive v.line → 0 < i → i < word_count p → Kept p V views → get_elem? views id ≡ some v → Kept p V (set views id (met v i (V i)))
+  met_kept i id v V views live lo inside kept at = dite (ℕ_discrete (V i) 0)
+      (λ e. subst (λ (t : Bool). Kept p V (set views id (if t then ticked v i (V i) (V i) else learned v i (V i)))) (sym (eq-eqb (V i) 0 e)) (idle_kept p V views kept id v at live v.gap i (V i) (V i)))
+      (λ ne. subst (λ (t : Bool). Kept p V (set views id (if t then ticked v i (V i) (V i) else learned v i (V i)))) (sym (ne_eqb (V i) 0 ne)) (learned_kept p V views kept id v at live i lo inside (omega arith)))
 
-  met_plan : (v : Note) (i n : ℕ) (t : Bool) → (◌≡◌ {A = Plan} (if t then ticked v i n else wrote v i n).plan v.plan) × (◌≡◌ {A = List ℕ} (if t then ticked v i n else wrote v i n).products v.products)
+  met_plan : (v : Note) (i n : ℕ) (t : Bool) → (◌≡◌ {A = Plan} (if t then ticked v i n n else learned v i n).plan v.plan) × (◌≡◌ {A = List ℕ} (if t then ticked v i n n else learned v i n).products v.products)
   met_plan v i n true = (refl, refl)
   met_plan v i n false = (refl, refl)
 
   pub meet_allows : (slots i id : ℕ) (v : Note) (c : List (ℕ × ℕ)) → IsLive v.line → 0 < i → i < word_count p → Allows (RuledBy p) slots id (v, c) i (λ n. n) (meets (step slots i 0 0 none) (v, c))
-  meet_allows slots i id v c live lo inside = plain_load slots i id v c (met v i) (meets (step slots i 0 0 none)) live inside (λ n. met_plan v i n (nat_eq n 0)) (λ V views k at. met_kept i id v V views lo inside k at) (λ n a b. (refl, (a, last n (nat_eq n 0) b)))
+  meet_allows slots i id v c live lo inside = plain_load slots i id v c (met v i) (meets (step slots i 0 0 none)) live inside (λ n. met_plan v i n (nat_eq n 0)) (λ V views k at. met_kept i id v V views live lo inside k at) (λ n a b. (refl, (a, named n (nat_eq n 0), last n (nat_eq n 0) b)))
     where
-      last : (n : ℕ) (t : Bool) → Lawful (if t then ticked v i n else wrote v i n) i n → Lawful (if t then ticked v i n else wrote v i n) (if t then ticked v i n else wrote v i n).last_word (if t then ticked v i n else wrote v i n).last_value
+      named : (n : ℕ) (t : Bool) → ◌≡◌ {A = ℕ} (if t then ticked v i n n else learned v i n).found n
+      named n true = refl
+      named n false = refl
+
+      last : (n : ℕ) (t : Bool) → Lawful (if t then ticked v i n n else learned v i n) i n → Lawful (if t then ticked v i n n else learned v i n) (if t then ticked v i n n else learned v i n).last_word (if t then ticked v i n n else learned v i n).last_value
       last n true h = h
       last n false h = h
 
-  cell_plan : (v : Note) (i n : ℕ) (t : Bool) → (◌≡◌ {A = Plan} (if t then missed_at v i n else wrote v i n).plan v.plan) × (◌≡◌ {A = List ℕ} (if t then missed_at v i n else wrote v i n).products v.products)
+  cell_plan : (v : Note) (i n : ℕ) (t : Bool) → (◌≡◌ {A = Plan} (if t then missed_at v i n else learned v i n).plan v.plan) × (◌≡◌ {A = List ℕ} (if t then missed_at v i n else learned v i n).products v.products)
   cell_plan v i n true = (refl, refl)
   cell_plan v i n false = (refl, refl)
 
   pub cell_allows : (slots i id : ℕ) (v : Note) (c : List (ℕ × ℕ)) → IsLive v.line → 0 < i → i < word_count p → Allows (RuledBy p) slots id (v, c) i (λ n. n) (meets_cell (step slots i 0 0 none) (v, c))
-  cell_allows slots i id v c live lo inside = plain_load slots i id v c (met_cell v i) (meets_cell (step slots i 0 0 none)) live inside (λ n. cell_plan v i n (nat_eq n 0)) kept_so (λ n a b. (refl, (a, last n (nat_eq n 0) b)))
+  cell_allows slots i id v c live lo inside = plain_load slots i id v c (met_cell v i) (meets_cell (step slots i 0 0 none)) live inside (λ n. cell_plan v i n (nat_eq n 0)) kept_so (λ n a b. (refl, (a, named n (nat_eq n 0), last n (nat_eq n 0) b)))
     where
       kept_so : (V : ℕ → ℕ) (views : List Note) → Kept p V views → get_elem? views id ≡ some v → Kept p V (set views id (met_cell v i (V i)))
       kept_so V views kept at = dite (ℕ_discrete (V i) 0)
-          (λ e. subst (λ (t : Bool). Kept p V (set views id (if t then missed_at v i (V i) else wrote v i (V i)))) (sym (eq-eqb (V i) 0 e)) (idle_kept p V views kept id v at (Some (record { word = i; step = suc v.steps })) i (V i)))
-          (λ ne. subst (λ (t : Bool). Kept p V (set views id (if t then missed_at v i (V i) else wrote v i (V i)))) (sym (ne_eqb (V i) 0 ne)) (wrote_kept p V views kept id v at i lo inside (omega arith)))
+          (λ e. subst (λ (t : Bool). Kept p V (set views id (if t then missed_at v i (V i) else learned v i (V i)))) (sym (eq-eqb (V i) 0 e)) (idle_kept p V views kept id v at live (Some (record { word = i; step = suc v.steps })) i (V i) (V i)))
+          (λ ne. subst (λ (t : Bool). Kept p V (set views id (if t then missed_at v i (V i) else learned v i (V i)))) (sym (ne_eqb (V i) 0 ne)) (learned_kept p V views kept id v at live i lo inside (omega arith)))
 
-      last : (n : ℕ) (t : Bool) → Lawful (if t then missed_at v i n else wrote v i n) i n → Lawful (if t then missed_at v i n else wrote v i n) (if t then missed_at v i n else wrote v i n).last_word (if t then missed_at v i n else wrote v i n).last_value
+      named : (n : ℕ) (t : Bool) → ◌≡◌ {A = ℕ} (if t then missed_at v i n else learned v i n).found n
+      named n true = refl
+      named n false = refl
+
+      last : (n : ℕ) (t : Bool) → Lawful (if t then missed_at v i n else learned v i n) i n → Lawful (if t then missed_at v i n else learned v i n) (if t then missed_at v i n else learned v i n).last_word (if t then missed_at v i n else learned v i n).last_value
       last n true h = h
       last n false h = h
 
   pub enter_allows : (slots id c : ℕ) (v : Note) (carried : List (ℕ × ℕ)) (b : Block) (r : ℕ) → IsLive v.line → c < p.cells → MayEnter p v b r c → Allows (RuledBy p) slots id (v, carried) (cell_at p c) (λ n. either (eqb n 0) (pack_of b r) n) (enters_cell (step slots (cell_at p c) 0 (pack_of b r) none) (v, carried))
-  enter_allows slots id c v carried b r live small asks = exchange_allows slots (cell_at p c) 0 (pack_of b r) id v carried (λ _. entered v (cell_at p c) (pack_of b r)) (wrote v (cell_at p c)) (enters_cell (step slots (cell_at p c) 0 (pack_of b r) none)) live (omega arith) (λ n. (refl, refl)) (λ n. (refl, refl)) (inr refl)
+  enter_allows slots id c v carried b r live small asks = exchange_allows slots (cell_at p c) 0 (pack_of b r) id v carried (λ _. entered v (cell_at p c) (pack_of b r)) (learned v (cell_at p c)) (enters_cell (step slots (cell_at p c) 0 (pack_of b r) none)) live (omega arith) (λ n. (refl, refl)) (λ n. (refl, refl)) (inr refl)
       (λ V W views k at is is' same. enter_kept p V views k id v at W b r c asks small is is' same live)
-      (λ V views k at miss. wrote_kept p V views k id v at (cell_at p c) (omega arith) (omega arith) (omega arith))
-      (λ n hit x y. ((refl, refl, refl), (λ _. refl), (λ no. absurd (no hit)), (x, y)))
-      (λ n miss x y. ((refl, refl, refl), (λ hit. absurd (miss hit)), (λ _. refl), (x, y)))
+      (λ V views k at miss. learned_kept p V views k id v at live (cell_at p c) (omega arith) (omega arith) (omega arith))
+      (λ n hit x y. ((refl, refl, refl), (λ _. refl), (λ no. absurd (no hit)), (x, sym hit, y)))
+      (λ n miss x y. ((refl, refl, refl), (λ hit. absurd (miss hit)), (λ _. refl), (x, refl, y)))
 
   pub link_allows : (slots id r : ℕ) (v : Note) (carried : List (ℕ × ℕ)) (d : Block) (q : ℕ) → IsLive v.line → r < p.capacity → MayLink p v r d q → Allows (RuledBy p) slots id (v, carried) (link_at p r) (λ n. either (eqb n 0) (pack_of d q) n) (sets_link (step slots (link_at p r) 0 (pack_of d q) none) (v, carried))
-  link_allows slots id r v carried d q live small asks = exchange_allows slots (link_at p r) 0 (pack_of d q) id v carried (λ _. wrote v (link_at p r) (pack_of d q)) (wrote v (link_at p r)) (sets_link (step slots (link_at p r) 0 (pack_of d q) none)) live (omega arith) (λ n. (refl, refl)) (λ n. (refl, refl)) (inr refl)
+  link_allows slots id r v carried d q live small asks = exchange_allows slots (link_at p r) 0 (pack_of d q) id v carried (λ _. wrote v (link_at p r) (pack_of d q)) (learned v (link_at p r)) (sets_link (step slots (link_at p r) 0 (pack_of d q) none)) live (omega arith) (λ n. (refl, refl)) (λ n. (refl, refl)) (inr refl)
       (λ V W views k at is is' same. link_kept p V views k id v at W r d q asks small is is' same)
-      (λ V views k at miss. wrote_kept p V views k id v at (link_at p r) (omega arith) (omega arith) (omega arith))
-      (λ n hit x y. ((refl, refl, refl), (λ _. refl), (λ no. absurd (no hit)), (x, y)))
-      (λ n miss x y. ((refl, refl, refl), (λ hit. absurd (miss hit)), (λ _. refl), (x, y)))
+      (λ V views k at miss. learned_kept p V views k id v at live (link_at p r) (omega arith) (omega arith) (omega arith))
+      (λ n hit x y. ((refl, refl, refl), (λ _. refl), (λ no. absurd (no hit)), (x, sym hit, y)))
+      (λ n miss x y. ((refl, refl, refl), (λ hit. absurd (miss hit)), (λ _. refl), (x, refl, y)))

@@ -43,7 +43,7 @@ module _ (p : Plan) (V : ℕ → ℕ) (views : List Note) (kept : Kept p V views
         one_draft = λ b d o q x y. ⊎_elim (λ a. absurd (x (old_full b a))) (λ (t : (block ≡ b) ⊎ ⊥). ⊎_elim (λ (e : block ≡ b). ⊎_elim (λ a. absurd (y (old_full d a))) (λ (t' : (block ≡ d) ⊎ ⊥). ⊎_elim (λ (e' : block ≡ d). sym e ∙ e') (λ z. absurd z) t') (owns_either v.own (claim ∷ []) d q)) (λ z. absurd z) t) (owns_either v.own (claim ∷ []) b o);
         made = λ i h. let m = k.made i h in let f = k.facts i (V i) m in subst (Has v.facts i) (sym (same i f.0)) m;
         made_cells = k.made_cells;
-        spent = λ e. absurd (not_live v.line live e);
+        joined = λ e. absurd (not_live v.line live e);
       };
       cells = cells_stay p V W views kept grows (λ c l. same (cell_at p c) (omega arith));
       unlike = unlike_stays p V W views kept grows (λ c l. same (cell_at p c) (omega arith));

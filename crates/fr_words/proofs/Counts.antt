@@ -12,6 +12,7 @@ use Rattle.fr_words.proofs.Covering.{below_block}
 use Rattle.fr_words.proofs.Told.{word_is}
 use Rattle.fr_words.specs.Laws.{WholeHandsOwnAll}
 use Rattle.fr_words.specs.Members.{Owns, covers, rows_of, times}
+use Rattle.fr_words.specs.Notes.{spent}
 use Rattle.fr_words.specs.Rule.{Kept, plain}
 use Rattle.fr_words.specs.declared.notes.Claim.{Claim}
 use Rattle.fr_words.specs.declared.notes.Note.{Note}
@@ -56,7 +57,9 @@ upto_rows k (c ∷ cs) h = let a = upto_add k (λ r. only_if (is_in r c.block) 1
 module _ (p : Plan) (W : ℕ → ℕ) (views : List Note) (kept : Kept p W views) (id : ℕ) (v : Note) (at : get_elem? views id ≡ some v) (whole : Whole v.line) where
   -- the other hands have nothing
   nothing : (j : ℕ) (u : Note) → j ≢ id → get_elem? views j ≡ some u → (u.own ≡ []) × (u.made ≡ [])
-  nothing j u other at' = (kept.each j u at').spent (whole_alone (λ (x : Note). x.line) views id j v u other at at' kept.woven whole)
+  nothing j u other at' =
+      let e : u ≡ spent = (kept.each j u at').joined (whole_alone (λ (x : Note). x.line) views id j v u other at at' kept.woven whole) in
+      (ap (λ (x : Note). x.own) e, ap (λ (x : Note). x.made) e)
 
   -- so the hand claimed all rows
   pub whole_rows : rows_of v.own ≡ W 0

@@ -22,7 +22,7 @@ use Rattle.fr_layout.specs.Places.{cell_at, field_at, link_at, on_walk}
 use Rattle.fr_layout.specs.declared.plan.Block.{Block}
 use Rattle.fr_layout.specs.declared.plan.Plan.{Plan}
 use Rattle.fr_words.proofs.Covering.{times_append}
-use Rattle.fr_words.proofs.Knowing.{agrees_now, complete_owned, complete_written}
+use Rattle.fr_words.proofs.Knowing.{admits_now, agrees_now, complete_owned, complete_written}
 use Rattle.fr_words.proofs.Members.{has_either, has_left, has_right}
 use Rattle.fr_words.proofs.Steps.{fact_stays, fields_stay, links_stay, one_draft_stays, others_stay, own_stays, placed_before, step_kept, unlike_before}
 use Rattle.fr_words.specs.Asks.{MayEnter}
@@ -59,7 +59,7 @@ module _ (p : Plan) (V : ℕ → ℕ) (views : List Note) (kept : Kept p V views
         one_draft = one_draft_stays p V W views kept grows v k;
         made = made_noted;
         made_cells = made_at;
-        spent = λ e. absurd (not_live v.line live e);
+        joined = λ e. absurd (not_live v.line live e);
       };
       cells = λ e m h. cell_case e (ℕ_discrete e c) m h;
       unlike = λ e1 e2 d1 d2 q1 q2 m1 m2 h1 h2 a. unlike_case e1 e2 d1 d2 q1 q2 m1 m2 (ℕ_discrete e1 c) (ℕ_discrete e2 c) h1 h2 a;
@@ -105,7 +105,7 @@ module _ (p : Plan) (V : ℕ → ℕ) (views : List Note) (kept : Kept p V views
           inside = asks.inside;
           written = written_grows p V W grows b written;
           code = asks.code;
-          coded = subst (λ (t : Term). IsCode p.letters t asks.code) (sym (meaning_stays p V W grows b written r)) (asks.coded V (agrees_now p V views kept id v at));
+          coded = subst (λ (t : Term). IsCode p.letters t asks.code) (sym (meaning_stays p V W grows b written r)) (asks.coded V (admits_now p V views kept id v at));
           distance = asks.distance;
           place = ap (cell_at p) asks.place;
           before = λ j h. let t = asks.before j h in let f = k.facts (spot j) (pack_of t.0 t.1) t.2 in
@@ -125,7 +125,7 @@ module _ (p : Plan) (V : ℕ → ℕ) (views : List Note) (kept : Kept p V views
         no_other e d q h a = go (dec_le (suc h.distance) asks.distance) (dec_le (suc asks.distance) h.distance)
           where
             one_home : home_of h.code p.cells ≡ home_is
-            one_home = ap (λ (c : List ℕ). home_of c p.cells) (sym (code-same p.letters (row_meaning p V b r) (row_meaning p V d q) asks.code h.code (asks.coded V (agrees_now p V views kept id v at)) h.coded a))
+            one_home = ap (λ (c : List ℕ). home_of c p.cells) (sym (code-same p.letters (row_meaning p V b r) (row_meaning p V d q) asks.code h.code (asks.coded V (admits_now p V views kept id v at)) h.coded a))
 
             here : cell_at p e ≡ spot h.distance
             here = h.place ∙ ap (λ (y : ℕ). on_walk p y h.distance) one_home
@@ -138,7 +138,7 @@ module _ (p : Plan) (V : ℕ → ℕ) (views : List Note) (kept : Kept p V views
                 let t = asks.before h.distance early in
                 let there : V (spot h.distance) ≡ pack_of t.0 t.1 = (agrees_now p V views kept id v at) (spot h.distance) (pack_of t.0 t.1) t.2 in
                 let z = one_row t.0 d t.1 q t.3 h.inside t.4 h.written.sized (sym there ∙ (ap V (sym here) ∙ h.names)) in
-                t.5 V (agrees_now p V views kept id v at) (subst (λ (y : Block × ℕ). SameMeaning p V b r y.0 y.1) (λ j. (sym z.0 j, sym z.1 j)) a)
+                t.5 V (admits_now p V views kept id v at) (subst (λ (y : Block × ℕ). SameMeaning p V b r y.0 y.1) (λ j. (sym z.0 j, sym z.1 j)) a)
             go (no _) (yes late) =
                 let full : 0 < V (on_walk p (home_of h.code p.cells) asks.distance) = h.before asks.distance late in
                 let there : V (on_walk p (home_of h.code p.cells) asks.distance) ≡ V i0 = ap (λ (y : ℕ). V (on_walk p y asks.distance)) one_home ∙ ap V (sym at_mine) in

@@ -48,7 +48,7 @@ module _ (p : Plan) (V : ℕ → ℕ) (views : List Note) (kept : Kept p V views
         one_draft = one_draft_stays p V W views kept grows v k;
         made = λ i h. let m = k.made i h in more i (W i) (subst (Has v.facts i) (sym (fact_stays p V W views kept grows v k i (V i) m)) m);
         made_cells = k.made_cells;
-        spent = k.spent;
+        joined = λ e. absurd (subst (λ (x : Note). Owns x.own b) (k.joined e) asks.owned);
       };
       cells = cells_stay p V W views kept grows same_cells;
       unlike = unlike_stays p V W views kept grows same_cells;

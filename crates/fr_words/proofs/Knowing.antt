@@ -9,10 +9,14 @@ use Rattle.fr_layout.specs.Packs.{pack_of}
 use Rattle.fr_layout.specs.Places.{IsIn, cell_at, field_at, link_at}
 use Rattle.fr_layout.specs.declared.plan.Block.{Block}
 use Rattle.fr_layout.specs.declared.plan.Plan.{Plan}
-use Rattle.fr_words.specs.Asks.{Agrees, IsComplete, IsNoted, SawCell, SawLink}
+use Rattle.fr_words.specs.Asks.{Admits, Agrees, IsComplete, IsNoted, SawCell, SawLink}
 use Rattle.fr_words.specs.Members.{Has, Owns}
 use Rattle.fr_words.specs.Rule.{IsOwned, Kept, Knows}
+use Rattle.fr_words.specs.declared.notes.Fact.{Fact}
 use Rattle.fr_words.specs.declared.notes.Note.{Note}
+
+pub admitted_agrees : (p : Plan) (facts : List Fact) (Y : ℕ → ℕ) → Admits p facts Y → Agrees facts Y
+admitted_agrees p facts Y a i x h = ((a.3.0.each a.1 a.2 a.3.1).facts i x (a.4 i x h)).3
 
 module _ (p : Plan) (V : ℕ → ℕ) (views : List Note) (kept : Kept p V views) (id : ℕ) (v : Note) (at : get_elem? views id ≡ some v) where
   k : Knows p V v
@@ -20,6 +24,9 @@ module _ (p : Plan) (V : ℕ → ℕ) (views : List Note) (kept : Kept p V views
 
   pub agrees_now : Agrees v.facts V
   agrees_now i x h = (k.facts i x h).3
+
+  pub admits_now : Admits p v.facts V
+  admits_now = (views, id, v, (kept, at), (λ i x h. h))
 
   -- the row of a full cell that the hand saw
   pub seen_placed : (c : ℕ) (d : Block) (q : ℕ) → c < p.cells → IsIn q d → d.size ≤ 1024 → Has v.facts (cell_at p c) (pack_of d q) → IsPlaced p V (cell_at p c) d q

@@ -17,13 +17,13 @@ use Rattle.fr_layout.specs.Places.{IsIn, cell_at, field_at, link_at}
 use Rattle.fr_layout.specs.declared.plan.Block.{Block}
 use Rattle.fr_layout.specs.declared.plan.Plan.{Plan}
 use Rattle.fr_words.proofs.Covering.{not_another, not_others}
-use Rattle.fr_words.proofs.Knowing.{agrees_now, complete_owned, complete_written, noted_written}
+use Rattle.fr_words.proofs.Knowing.{admits_now, agrees_now, complete_owned, complete_written, noted_written}
 use Rattle.fr_words.proofs.Members.{has_left, has_right, owns_either}
 use Rattle.fr_words.proofs.Products.{itself_seen}
 use Rattle.fr_words.specs.Asks.{Agrees, IsComplete, IsFinished, IsNoted}
 use Rattle.fr_words.specs.Laws.{HandlesAreUnique, IsUnseen, KeepsFact, NoDraftIsLeft, RowsShowOneMachine}
 use Rattle.fr_words.specs.Members.{Has, Owns}
-use Rattle.fr_words.specs.Notes.{fact, missed_at, read_product, ticked, united, wrote}
+use Rattle.fr_words.specs.Notes.{fact, learned, missed_at, read_product, ticked, united, wrote}
 use Rattle.fr_words.specs.Rule.{IsOwned, Kept, plain}
 use Rattle.fr_words.specs.declared.notes.Note.{Note}
 
@@ -134,11 +134,12 @@ keeps_fact v u i x h = record {
   looks = λ n. h;
   claims = λ start next. h;
   writes = more;
+  learns = more;
   meets = λ j y. met_more j y (nat_eq y 0);
   meets_cell = λ j y. cell_more j y (nat_eq y 0);
   enters = more;
   meets_product = λ j y. product_more j y (nat_eq y 0);
-  swaps = λ j y. h;
+  swaps = λ j y z. h;
   splits = (h, h);
   joins = (has_left v.facts u.facts i x h, has_right u.facts v.facts i x h);
 }
@@ -146,15 +147,15 @@ keeps_fact v u i x h = record {
     more : (j y : ℕ) → Has (wrote v j y).facts i x
     more j y = has_left v.facts (fact j y ∷ []) i x h
 
-    met_more : (j y : ℕ) (t : Bool) → Has (if t then ticked v j y else wrote v j y).facts i x
+    met_more : (j y : ℕ) (t : Bool) → Has (if t then ticked v j y y else learned v j y).facts i x
     met_more j y true = h
     met_more j y false = more j y
 
-    cell_more : (j y : ℕ) (t : Bool) → Has (if t then missed_at v j y else wrote v j y).facts i x
+    cell_more : (j y : ℕ) (t : Bool) → Has (if t then missed_at v j y else learned v j y).facts i x
     cell_more j y true = h
     cell_more j y false = more j y
 
-    product_more : (j y : ℕ) (t : Bool) → Has (if t then ticked v j y else read_product v j y).facts i x
+    product_more : (j y : ℕ) (t : Bool) → Has (if t then ticked v j y y else read_product v j y).facts i x
     product_more j y true = h
     product_more j y false = h
 
@@ -167,7 +168,7 @@ unique = record {
   hand = λ v i n a e b d l h h' alike.
       let W = plain v.plan l.state.words in
       let kept = l.ruled.kept in
-      one_handle v.plan W l.state.views kept a e b d (itself_seen v.plan W l.state.views kept l.seat v l.at a b h) (itself_seen v.plan W l.state.views kept l.seat v l.at e d h') (alike W (agrees_now v.plan W l.state.views kept l.seat v l.at));
+      one_handle v.plan W l.state.views kept a e b d (itself_seen v.plan W l.state.views kept l.seat v l.at a b h) (itself_seen v.plan W l.state.views kept l.seat v l.at e d h') (alike W (admits_now v.plan W l.state.views kept l.seat v l.at));
   block = λ p W views b d r kept o o' i j. one_block p W views kept b d r o o' i j;
 }
 
@@ -177,6 +178,7 @@ machines = record {
   complete = λ v i n b l complete noted Y a. complete_known v.plan (plain v.plan l.state.words) l.state.views l.ruled.kept l.seat v l.at b complete noted Y a;
   link = λ v i n b d r q l complete j nb nd k size small has Y a. link_known v.plan (plain v.plan l.state.words) l.state.views l.ruled.kept l.seat v l.at b d r q complete j nb nd k size small has Y a;
   kept = keeps_fact;
+  known = λ p few more Y sub a. (a.0, a.1, a.2, a.3, (λ i x h. a.4 i x (sub i x h)));
 }
 
 pub drafts : NoDraftIsLeft

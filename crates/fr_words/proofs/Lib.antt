@@ -15,3 +15,4 @@ pub mod Told
 pub mod Learned
 pub mod Counts
 pub mod Pigeons
+pub mod Standing

@@ -11,7 +11,7 @@ use Rattle.fr_layout.specs.Packs.{pack_of}
 use Rattle.fr_layout.specs.Places.{cell_at, field_at, link_at}
 use Rattle.fr_layout.specs.declared.plan.Block.{Block}
 use Rattle.fr_layout.specs.declared.plan.Plan.{Plan}
-use Rattle.fr_words.proofs.Knowing.{agrees_now, complete_owned, complete_written, seen_placed}
+use Rattle.fr_words.proofs.Knowing.{admits_now, complete_owned, complete_written, seen_placed}
 use Rattle.fr_words.proofs.Members.{has_either, has_left}
 use Rattle.fr_words.proofs.Steps.{cells_stay, fact_stays, fields_stay, one_draft_stays, others_stay, own_stays, owned_stays, step_kept, unlike_stays}
 use Rattle.fr_words.specs.Asks.{MayLink}
@@ -45,7 +45,7 @@ module _ (p : Plan) (V : ℕ → ℕ) (views : List Note) (kept : Kept p V views
         one_draft = one_draft_stays p V W views kept grows v k;
         made = λ i h. let m = k.made i h in more i (W i) (subst (Has v.facts i) (sym (fact_stays p V W views kept grows v k i (V i) m)) m);
         made_cells = k.made_cells;
-        spent = k.spent;
+        joined = λ e. absurd (subst (λ (x : Note). Has x.facts (cell_at p asks.cell) (pack_of d q)) (k.joined e) asks.seen);
       };
       cells = cells_stay p V W views kept grows same_cells;
       unlike = unlike_stays p V W views kept grows same_cells;
@@ -94,7 +94,7 @@ module _ (p : Plan) (V : ℕ → ℕ) (views : List Note) (kept : Kept p V views
               row = q;
               placed = placed_grows p V W grows (cell_at p asks.cell) (omega arith) d q placed;
               names = now;
-              alike = alike_on p V W grows asks.own d r q written placed.written (asks.alike V (agrees_now p V views kept id v at));
+              alike = alike_on p V W grows asks.own d r q written placed.written (asks.alike V (admits_now p V views kept id v at));
             }
 
         link_case : (y : ℕ) → Dec (y ≡ r) → y < p.capacity → 0 < W (link_at p y) → (l : IsLinked p W y) × IsOwned views l.own

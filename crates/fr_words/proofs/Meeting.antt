@@ -5,9 +5,9 @@ use lib.ListN.{get_elem?}
 use mathlib.Core.Logic.{dite}
 use native.Mathlib.Decide.{ℕ_discrete}
 use Rattle.atomic_table.proofs.Lists.{at_set, at_snoc, at_longer, set_else}
-use Rattle.fr_line.specs.Lines.{only_if, below, IsLive, cut, sprout}
+use Rattle.fr_line.specs.Lines.{only_if, below, IsLive, cut, first_line, sprout}
 use Rattle.fr_line.proofs.Totals.{total_set, total_snoc}
-use Rattle.fr_line.proofs.Weaving.{woven_split, woven_join, woven_first, not_live, head_of, uncut, live_append}
+use Rattle.fr_line.proofs.Weaving.{woven_split, woven_join, woven_first, not_live, head_of, uncut, live_append, live_sprout}
 use Rattle.fr_layout.specs.Meaning.{IsFull}
 use Rattle.fr_layout.specs.Places.{IsPlan, cell_at, field_at, link_at}
 use Rattle.fr_layout.specs.declared.plan.Block.{Block}
@@ -61,11 +61,11 @@ module _ (p : Plan) (V : ℕ → ℕ) (views : List Note) (kept : Kept p V views
         one_draft = k.one_draft;
         made = k.made;
         made_cells = k.made_cells;
-        spent = λ e. absurd (not_live v.line live (uncut v.line e));
+        joined = λ e. absurd (not_live v.line live (uncut v.line e));
       }
 
       right : Knows p V (sprouted v)
-      right = record { planned = λ _. k.planned live; seen = k.seen; facts = k.facts; own = λ b o. absurd o; one_draft = λ b d o q x y. absurd o; made = λ i h. absurd (omega arith); made_cells = λ i h. absurd (omega arith); spent = λ _. (refl, refl) }
+      right = record { planned = λ _. k.planned live; seen = k.seen; facts = k.facts; own = λ b o. absurd o; one_draft = λ b d o q x y. absurd o; made = λ i h. absurd (omega arith); made_cells = λ i h. absurd (omega arith); joined = λ e. absurd (not_live (sprout v.line) (live_sprout v.line live) e) }
 
   pub join_kept : (other : ℕ) (u : Note) → IsFinished p u → other ≢ id → get_elem? (set views id (united v u)) other ≡ some u → Kept p V (set (set views id (united v u)) other spent)
   join_kept other u finished apart at' = record {
@@ -99,7 +99,7 @@ module _ (p : Plan) (V : ℕ → ℕ) (views : List Note) (kept : Kept p V views
           still = set_else (set views id (united v u)) other id spent (λ e. apart (sym e)) ∙ set_there views id v (united v u) at
 
       nothing : Knows p V spent
-      nothing = record { planned = λ l. absurd (not_live [] l refl); seen = omega arith; facts = λ i x h. absurd h; own = λ b o. absurd o; one_draft = λ b d o q x y. absurd o; made = λ i h. absurd (omega arith); made_cells = λ i h. absurd (omega arith); spent = λ _. (refl, refl) }
+      nothing = record { planned = λ l. absurd (not_live [] l refl); seen = omega arith; facts = λ i x h. absurd h; own = λ b o. absurd o; one_draft = λ b d o q x y. absurd o; made = λ i h. absurd (omega arith); made_cells = λ i h. absurd (omega arith); joined = λ _. refl }
 
       both : Knows p V (united v u)
       both = record {
@@ -111,7 +111,7 @@ module _ (p : Plan) (V : ℕ → ℕ) (views : List Note) (kept : Kept p V views
         one_draft = λ b d o q x y. ⊎_elim (λ a. ⊎_elim (λ a'. k.one_draft b d a a' x y) (λ a'. absurd (y (theirs d a'))) (owns_either v.own u.own d q)) (λ a. absurd (x (theirs b a))) (owns_either v.own u.own b o);
         made = λ i h. either_made i (times i v.made) refl h;
         made_cells = λ i h. either_cell i (times i v.made) refl h;
-        spent = λ e. absurd (not_live _ (live_append v.line u.line live) e);
+        joined = λ e. absurd (not_live _ (live_append v.line u.line live) e);
       }
         where
           theirs : (d : Block) → Owns u.own d → IsFull p V d
@@ -132,7 +132,7 @@ start_kept p V planned blank = record {
   fresh = λ r f _ _ _. blank (field_at p r f);
   fresh_link = λ r _ _. blank (link_at p r);
   cover = λ r. let z = blank 0 in none r (V 0) z;
-  each = λ j u e. subst (Knows p V) (only_one j u e) record { planned = λ _. refl; seen = omega arith; facts = λ i x h. absurd h; own = λ b o. absurd o; one_draft = λ b d o q x y. absurd o; made = λ i h. absurd (omega arith); made_cells = λ i h. absurd (omega arith); spent = λ _. (refl, refl) };
+  each = λ j u e. subst (Knows p V) (only_one j u e) record { planned = λ _. refl; seen = omega arith; facts = λ i x h. absurd h; own = λ b o. absurd o; one_draft = λ b d o q x y. absurd o; made = λ i h. absurd (omega arith); made_cells = λ i h. absurd (omega arith); joined = λ e. absurd (not_live first_line (omega arith) e) };
   woven = woven_first (λ (u : Note). u.line) (newcomer p) refl;
   cells = λ c l h. absurd (let z = blank (cell_at p c) in omega arith);
   unlike = λ c e b d r q l m h k a. absurd (let z = blank (cell_at p c) in let n = h.names in omega arith);

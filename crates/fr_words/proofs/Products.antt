@@ -8,7 +8,7 @@ use Rattle.fr_layout.specs.Packs.{pack_of}
 use Rattle.fr_layout.specs.Places.{link_at}
 use Rattle.fr_layout.specs.declared.plan.Block.{Block}
 use Rattle.fr_layout.specs.declared.plan.Plan.{Plan}
-use Rattle.fr_words.proofs.Knowing.{agrees_now}
+use Rattle.fr_words.proofs.Knowing.{admits_now, agrees_now}
 use Rattle.fr_words.specs.Asks.{MayCache, SawItself}
 use Rattle.fr_words.specs.Rule.{Kept}
 use Rattle.fr_words.specs.declared.notes.Note.{Note}
@@ -33,6 +33,6 @@ module _ (p : Plan) (V : ℕ → ℕ) (views : List Note) (kept : Kept p V views
     first_named = itself_seen h.first h.first_block h.first_seen;
     second_named = itself_seen h.second h.second_block h.second_seen;
     third_named = itself_seen h.third h.third_block h.third_seen;
-    product = h.product V (agrees_now p V views kept id v at);
-    few = h.few V (agrees_now p V views kept id v at);
+    product = h.product V (admits_now p V views kept id v at);
+    few = h.few V (admits_now p V views kept id v at);
   }

@@ -138,7 +138,7 @@ module _ (p : Plan) (V W : ℕ → ℕ) (views : List Note) (kept : Kept p V vie
     one_draft = one_draft_stays u k;
     made = λ i h. let m = k.made i h in subst (Has u.facts i) (sym (fact_stays u k i (V i) m)) m;
     made_cells = k.made_cells;
-    spent = k.spent;
+    joined = k.joined;
   }
 
   -- where no field changes, a claimed block's words stay

@@ -11,12 +11,17 @@ use Rattle.fr_layout.specs.Packs.{pack_of, product_word}
 use Rattle.fr_layout.specs.Meaning.{row_meaning, SameMeaning, IsReduced, IsGood}
 use Rattle.fr_words.specs.Members.{Has, Owns}
 use Rattle.fr_words.specs.Notes.{fact}
+use Rattle.fr_words.specs.Rule.{IsHandOf}
 use Rattle.fr_words.specs.declared.notes.Fact.{Fact}
 use Rattle.fr_words.specs.declared.notes.Note.{Note}
 
--- the facts hold of the words Y. What a hand knows is what is right of all such Y
+-- the facts hold of the words Y
 abbrev pub Agrees : List Fact → (ℕ → ℕ) → Type 0
 Agrees facts Y = (i x : ℕ) → Has facts i x → Y i ≡ x
+
+-- The facts admit the words Y: they are those of a table under the rule in which a hand noted all these facts. What a hand knows is what is right of all such Y
+abbrev pub Admits : Plan → List Fact → (ℕ → ℕ) → Type 0
+Admits p facts Y = (views : List Note) × (k : ℕ) × (u : Note) × IsHandOf p Y views k u × ((i x : ℕ) → Has facts i x → Has u.facts i x)
 
 -- each field of the block is noted
 abbrev pub IsNoted : Plan → List Fact → Block → Type 0
@@ -54,14 +59,14 @@ IsComplete p v b = (Owns v.own b × IsNoted p v.facts b) ⊎ (SawCell p v b ⊎ 
 
 -- the cell j of a walk from the home h is known to be full of a row that is unlike the row r of b
 abbrev pub SawUnlike : Plan → Note → Block → ℕ → ℕ → ℕ → Type 0
-SawUnlike p v b r h j = (d : Block) × (q : ℕ) × Has v.facts (cell_at p ((h + j) % p.cells)) (pack_of d q) × IsIn q d × (d.size ≤ 1024) × ((Y : ℕ → ℕ) → Agrees v.facts Y → ¬ SameMeaning p Y b r d q)
+SawUnlike p v b r h j = (d : Block) × (q : ℕ) × Has v.facts (cell_at p ((h + j) % p.cells)) (pack_of d q) × IsIn q d × (d.size ≤ 1024) × ((Y : ℕ → ℕ) → Admits p v.facts Y → ¬ SameMeaning p Y b r d q)
 
 -- The row r of b may be put into the cell c: its block is known to be complete, and from its home to that cell the hand saw only full cells with unlike rows
 pub record MayEnter (p : Plan) (v : Note) (b : Block) (r c : ℕ) : Type 0 where
   pub complete : IsComplete p v b
   pub inside : IsIn r b
   pub code : List ℕ
-  pub coded : (Y : ℕ → ℕ) → Agrees v.facts Y → IsCode p.letters (row_meaning p Y b r) code
+  pub coded : (Y : ℕ → ℕ) → Admits p v.facts Y → IsCode p.letters (row_meaning p Y b r) code
   pub distance : ℕ
   pub place : c ≡ (home_of code p.cells + distance) % p.cells
   pub before : (j : ℕ) → j < distance → SawUnlike p v b r (home_of code p.cells) j
@@ -76,7 +81,7 @@ pub record MayLink (p : Plan) (v : Note) (r : ℕ) (d : Block) (q : ℕ) : Type 
   pub seen : Has v.facts (cell_at p cell) (pack_of d q)
   pub there : IsIn q d
   pub sized : d.size ≤ 1024
-  pub alike : (Y : ℕ → ℕ) → Agrees v.facts Y → SameMeaning p Y own r d q
+  pub alike : (Y : ℕ → ℕ) → Admits p v.facts Y → SameMeaning p Y own r d q
 
 -- the hand knows the handle of the row a of b: it saw the link of the row name the row itself
 abbrev pub SawItself : Plan → Note → ℕ → Block → Type 0
@@ -94,5 +99,5 @@ pub record MayCache (p : Plan) (v : Note) (x : ℕ) : Type 0 where
   pub first_seen : SawItself p v first first_block
   pub second_seen : SawItself p v second second_block
   pub third_seen : SawItself p v third third_block
-  pub product : (Y : ℕ → ℕ) → Agrees v.facts Y → IsAlike (row_meaning p Y third_block third) (Product (row_meaning p Y first_block first) (row_meaning p Y second_block second))
-  pub few : (Y : ℕ → ℕ) → Agrees v.facts Y → HasFewPairs p.letters (row_meaning p Y first_block first) (row_meaning p Y second_block second)
+  pub product : (Y : ℕ → ℕ) → Admits p v.facts Y → IsAlike (row_meaning p Y third_block third) (Product (row_meaning p Y first_block first) (row_meaning p Y second_block second))
+  pub few : (Y : ℕ → ℕ) → Admits p v.facts Y → HasFewPairs p.letters (row_meaning p Y first_block first) (row_meaning p Y second_block second)

@@ -4,7 +4,7 @@ use mathlib.Core.Option.{some}
 use lib.ListN.{get_elem?}
 use Rattle.atomic_table.specs.Table.{State, Me, Step}
 use Rattle.fr_words.specs.Rule.{RuledBy}
-use Rattle.fr_words.specs.Notes.{ticked, met_product, saw, claimed, wrote, met, met_cell, entered}
+use Rattle.fr_words.specs.Notes.{ticked, met_product, saw, claimed, wrote, learned, met, met_cell, entered}
 use Rattle.fr_words.specs.declared.notes.Note.{Note}
 
 -- there is a table under the rule in which a hand has this note and the word i is n
@@ -23,9 +23,9 @@ IsLawful v = Lawful v v.last_word v.last_value
 abbrev Seated : Type 0
 Seated = Me ℕ Note
 
--- the note before with what was found, and the note after with what the word is then
+-- the note before with what was found, which the note after names, and the note after with what the word is then
 abbrev pub Tells : Step ℕ → Seated → ℕ → Seated → Type 0
-Tells st m n m' = Lawful m.0 st.word n × IsLawful m'.0
+Tells st m n m' = Lawful m.0 st.word n × (m'.0.found ≡ n) × IsLawful m'.0
 
 -- what no exchange changes
 abbrev pub Same : Seated → Seated → Type 0
@@ -47,13 +47,13 @@ abbrev pub meets_cell : Step ℕ → Seated → ℕ → Seated → Type 0
 meets_cell st m n m' = (m' ≡ (met_cell m.0 st.word n, m.1)) × Tells st m n m'
 
 abbrev pub enters_cell : Step ℕ → Seated → ℕ → Seated → Type 0
-enters_cell st m n m' = Same m m' × (n ≡ 0 → m' ≡ (entered m.0 st.word st.second, m.1)) × (n ≢ 0 → m' ≡ (wrote m.0 st.word n, m.1)) × Tells st m n m'
+enters_cell st m n m' = Same m m' × (n ≡ 0 → m' ≡ (entered m.0 st.word st.second, m.1)) × (n ≢ 0 → m' ≡ (learned m.0 st.word n, m.1)) × Tells st m n m'
 
 abbrev pub sets_link : Step ℕ → Seated → ℕ → Seated → Type 0
-sets_link st m n m' = Same m m' × (n ≡ 0 → m' ≡ (wrote m.0 st.word st.second, m.1)) × (n ≢ 0 → m' ≡ (wrote m.0 st.word n, m.1)) × Tells st m n m'
+sets_link st m n m' = Same m m' × (n ≡ 0 → m' ≡ (wrote m.0 st.word st.second, m.1)) × (n ≢ 0 → m' ≡ (learned m.0 st.word n, m.1)) × Tells st m n m'
 
 abbrev pub meets_product : Step ℕ → Seated → ℕ → Seated → Type 0
 meets_product st m n m' = (m' ≡ (met_product m.0 st.word n, m.1)) × Tells st m n m'
 
 abbrev pub swaps : Step ℕ → Seated → ℕ → Seated → Type 0
-swaps st m n m' = (m' ≡ (ticked m.0 st.word st.first, m.1)) × Tells st m n m'
+swaps st m n m' = (m' ≡ (ticked m.0 st.word n st.first, m.1)) × Tells st m n m'

@@ -10,6 +10,7 @@ use Rattle.fr_layout.specs.Places.{IsPlan, field_at, link_at, cell_at, cache_at,
 use Rattle.fr_layout.specs.Meaning.{IsFull, IsGood, IsReduced, SameMeaning}
 use Rattle.fr_layout.specs.Entries.{IsPlaced, IsLinked, IsCached}
 use Rattle.fr_words.specs.Members.{Has, Owns, covers, times}
+use Rattle.fr_words.specs.Notes.{spent}
 use Rattle.fr_words.specs.declared.notes.Note.{Note}
 
 -- A block that a hand claimed. Its fields are 0 where the hand has not filled them. One with such a field is a draft, and any other has pairwise unlike rows
@@ -32,7 +33,8 @@ pub record Knows (p : Plan) (W : ℕ → ℕ) (v : Note) : Type 0 where
   -- what the hand filled are cells, and stand in its facts
   pub made : (i : ℕ) → 0 < times i v.made → Has v.facts i (W i)
   pub made_cells : (i : ℕ) → 0 < times i v.made → (c : ℕ) × (c < p.cells) × (i ≡ cell_at p c)
-  pub spent : v.line ≡ [] → (v.own ≡ []) × (v.made ≡ [])
+  -- a hand that was joined into another leaves the empty note
+  pub joined : v.line ≡ [] → v ≡ spent
 
 -- some hand claimed the block
 abbrev pub IsOwned : List Note → Block → Type 0
@@ -59,6 +61,10 @@ pub record Kept (p : Plan) (W : ℕ → ℕ) (views : List Note) : Type 0 where
   pub owned : (c : ℕ) → c < p.cells → (b : Block) (r : ℕ) → IsPlaced p W (cell_at p c) b r → IsOwned views b
   -- each full cell was filled by one hand, once
   pub filled : (c : ℕ) → c < p.cells → total (λ v. times (cell_at p c) v.made) views ≡ only_if (nat_lt 0 (W (cell_at p c))) 1
+
+-- The hand k of a table under the rule has the note v: W is the content of the words below the cache, and the views are the notes of all hands
+abbrev pub IsHandOf : Plan → (ℕ → ℕ) → List Note → ℕ → Note → Type 0
+IsHandOf p W views k v = Kept p W views × (get_elem? views k ≡ some v)
 
 -- the words below the cache
 abbrev pub plain : Plan → List ℕ → ℕ → ℕ

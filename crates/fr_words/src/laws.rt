@@ -1,6 +1,6 @@
 //! The laws of the shared table: what follows from its rule for its hands. The functions compute
 //! nothing, and the contract of each is a law.
-ghost use Rattle.fr_words.specs.Laws.{WholeHandsOwnAll, SomeCellIsEmpty, HandlesAreUnique, RowsShowOneMachine, NoDraftIsLeft};
+ghost use Rattle.fr_words.specs.Laws.{WholeHandsOwnAll, SomeCellIsEmpty, HandlesAreUnique, CellsAreUnique, RowsShowOneMachine, NoDraftIsLeft};
 
 /// The blocks of a whole hand add up to the number of claimed rows, and the cells that it filled
 /// are the full cells.
@@ -16,6 +16,12 @@ pub fn some_cell_is_empty()
 /// Two handles whose rows act alike are one.
 pub fn handles_are_unique()
     ensures { HandlesAreUnique }
+{}
+
+/// Two cells whose rows act alike are one, and the link of a row that stands in a cell is 0 or names
+/// that row.
+pub fn cells_are_unique()
+    ensures { CellsAreUnique }
 {}
 
 /// A row shows one machine for good.

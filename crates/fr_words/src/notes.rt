@@ -49,6 +49,8 @@ pub struct Note {
     pub steps: u64,
     /// The word of the last of them.
     pub last_word: u64,
+    /// What stood in that word right before it.
+    pub found: u64,
     /// What stood in that word right after it.
     pub last_value: u64,
     /// The cell that a load of it found empty last.

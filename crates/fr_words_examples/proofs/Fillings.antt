@@ -20,6 +20,7 @@ use Rattle.fr_words.specs.declared.notes.Note.{Note}
 use Rattle.fr_words.specs.Members.{Has, Owns}
 use Rattle.fr_words.specs.Notes.{fact, wrote, entered}
 use Rattle.fr_words.specs.Asks.{Agrees, IsNoted, MayFill, MayEnter, MayLink, SawItself}
+use Rattle.fr_words.proofs.Knowing.{admitted_agrees}
 use Rattle.fr_words.proofs.Members.{has_left, has_right, has_either}
 use Rattle.fr_words_examples.specs.Filling.{first_row, filled, KnowsRow}
 
@@ -79,7 +80,7 @@ module _ (p : Plan) (row : Row) where
       complete = inl (owns (p.letters + 1), noted (filled p row (p.letters + 1)).facts all_filled);
       inside = (omega arith, omega arith);
       code = code;
-      coded = λ Y agrees. subst (λ (t : Term). IsCode p.letters t code) (sym (meaning_is p Y first_row (row ∷ []) m refl (spelled_from (filled p row (p.letters + 1)).facts all_filled Y agrees) 0)) coded;
+      coded = λ Y admits. subst (λ (t : Term). IsCode p.letters t code) (sym (meaning_is p Y first_row (row ∷ []) m refl (spelled_from (filled p row (p.letters + 1)).facts all_filled Y (admitted_agrees p (filled p row (p.letters + 1)).facts Y admits)) 0)) coded;
       distance = 0;
       place = is ∙ within (home_of code p.cells) p.cells (omega arith);
       before = λ j l. absurd (omega arith);
@@ -96,7 +97,7 @@ module _ (p : Plan) (row : Row) where
       seen = has_right (filled p row (p.letters + 1)).facts (fact (cell_at p c) 1 ∷ []) (cell_at p c) 1 (inl (refl, refl));
       there = (omega arith, omega arith);
       sized = omega arith;
-      alike = λ Y agrees. alike_refl (row_meaning p Y first_row 0);
+      alike = λ Y admits. alike_refl (row_meaning p Y first_row 0);
     }
 
 -- what the hand knows after the last step

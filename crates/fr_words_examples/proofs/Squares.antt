@@ -15,6 +15,7 @@ use Rattle.fr_machine.proofs.RowLaws.{IsAutomaton-states_of}
 use Rattle.fr_layout.specs.declared.plan.Plan.{Plan}
 use Rattle.fr_layout.specs.Meaning.{row_meaning}
 use Rattle.fr_layout.proofs.Machines.{meaning_is}
+use Rattle.fr_words.proofs.Knowing.{admitted_agrees}
 use Rattle.fr_words.specs.Asks.{Agrees, MayCache}
 use Rattle.fr_words.specs.declared.notes.Note.{Note}
 use Rattle.fr_words_examples.specs.Filling.{first_row, KnowsRow}
@@ -84,8 +85,8 @@ may_cache p v row word m id known is = record {
   first_seen = known.handle;
   second_seen = known.handle;
   third_seen = known.handle;
-  product = λ Y agrees. subst (λ (t : Term). IsAlike t (Product t t)) (sym (means Y agrees)) (square p.letters row m id);
-  few = λ Y agrees. subst (λ (t : Term). HasFewPairs p.letters t t) (sym (means Y agrees)) (few p.letters row m id);
+  product = λ Y admits. subst (λ (t : Term). IsAlike t (Product t t)) (sym (means Y (admitted_agrees p v.facts Y admits))) (square p.letters row m id);
+  few = λ Y admits. subst (λ (t : Term). HasFewPairs p.letters t t) (sym (means Y (admitted_agrees p v.facts Y admits))) (few p.letters row m id);
 }
   where
     means : (Y : ℕ → ℕ) → Agrees v.facts Y → row_meaning p Y first_row 0 ≡ row_term (row ∷ []) 0

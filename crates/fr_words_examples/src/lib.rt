@@ -59,7 +59,7 @@ pub fn cache_square(row: &Row, words: &Words, hand: &mut Hand) -> u64
     requires identity { row.now.perm ≡ identity_permutation words.now.plan.letters }
     requires known { KnowsRow words.now.plan (note hand.old) row.now }
     ensures of { IsOf words.now hand.new }
-    ensures noted { note hand.new ≡ ticked (note hand.old) (cache_at words.now.plan 0) 1 }
+    ensures noted { note hand.new ≡ ticked (note hand.old) (cache_at words.now.plan 0) result 1 }
 {
     // For the proof: the row is named by the clauses alone.
     let _row = row;

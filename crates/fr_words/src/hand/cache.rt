@@ -16,6 +16,7 @@ impl Hand {
         requires of { IsOf words.now self.old }
         ensures of { IsOf words.now self.new }
         ensures noted { note self.new ≡ met_product (note self.old) (cache_at words.now.plan place) result }
+        ensures found { (note self.new).found ≡ result }
         ensures lawful { Lawful (note self.old) (cache_at words.now.plan place) result × IsLawful (note self.new) }
     {
         let word = words.plan.cache_word(place);
@@ -29,7 +30,8 @@ impl Hand {
         requires of { IsOf words.now self.old }
         requires asks { MayCache words.now.plan (note self.old) new }
         ensures of { IsOf words.now self.new }
-        ensures noted { note self.new ≡ ticked (note self.old) (cache_at words.now.plan place) new }
+        ensures noted { note self.new ≡ ticked (note self.old) (cache_at words.now.plan place) result new }
+        ensures found { (note self.new).found ≡ result }
         ensures lawful { Lawful (note self.old) (cache_at words.now.plan place) result × IsLawful (note self.new) }
     {
         let word = words.plan.cache_word(place);

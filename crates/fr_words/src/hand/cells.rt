@@ -3,7 +3,7 @@ ghost use Rattle.std.specs.Prelude.{◌≡◌, ℕ, ◌<◌, MatchResult};
 ghost use Rattle.fr_layout.specs.declared.plan.Block.{Block};
 ghost use Rattle.fr_layout.specs.Places.{cell_at};
 ghost use Rattle.fr_layout.specs.Packs.{pack_of, IsPack};
-ghost use Rattle.fr_words.specs.Notes.{wrote, met_cell, entered};
+ghost use Rattle.fr_words.specs.Notes.{learned, met_cell, entered};
 ghost use Rattle.fr_words.specs.Lawful.{Lawful, IsLawful};
 ghost use Rattle.fr_words.specs.Asks.{MayEnter};
 ghost use Rattle.fr_words.specs.Hands.{note, IsOf};
@@ -19,6 +19,7 @@ impl Hand {
         requires place { cell < words.now.plan.cells }
         ensures of { IsOf words.now self.new }
         ensures noted { note self.new ≡ met_cell (note self.old) (cell_at words.now.plan cell) result }
+        ensures found { (note self.new).found ≡ result }
         ensures pack { 0 < result → IsPack words.now.plan result }
         ensures lawful { Lawful (note self.old) (cell_at words.now.plan cell) result × IsLawful (note self.new) }
     {
@@ -38,7 +39,8 @@ impl Hand {
         requires place { cell < words.now.plan.cells }
         requires asks { (b : Block) × (r : ℕ) × (pack ≡ pack_of b r) × MayEnter words.now.plan (note self.old) b r cell }
         ensures of { IsOf words.now self.new }
-        ensures entered { MatchResult result (λ _. note self.new ≡ entered (note self.old) (cell_at words.now.plan cell) pack) (λ there. (0 < there) × IsPack words.now.plan there × (note self.new ≡ wrote (note self.old) (cell_at words.now.plan cell) there)) }
+        ensures entered { MatchResult result (λ _. note self.new ≡ entered (note self.old) (cell_at words.now.plan cell) pack) (λ there. (0 < there) × IsPack words.now.plan there × (note self.new ≡ learned (note self.old) (cell_at words.now.plan cell) there)) }
+        ensures found { MatchResult result (λ _. (note self.new).found ≡ 0) (λ there. (note self.new).found ≡ there) }
         ensures met { MatchResult result (λ _. Lawful (note self.old) (cell_at words.now.plan cell) 0) (λ there. Lawful (note self.old) (cell_at words.now.plan cell) there) }
         ensures lawful { IsLawful (note self.new) }
     {

@@ -17,6 +17,7 @@ impl Hand {
         requires of { IsOf words.now self.old }
         ensures of { IsOf words.now self.new }
         ensures noted { note self.new ≡ saw (note self.old) result }
+        ensures found { (note self.new).found ≡ result }
         ensures range { ((note self.old).seen ≤ result) × (result ≤ words.now.plan.capacity) }
         ensures lawful { Lawful (note self.old) 0 result × IsLawful (note self.new) }
     {
@@ -37,7 +38,8 @@ impl Hand {
         requires asked { (0 < asked) × (asked ≤ 1024) }
         requires room { seen + asked ≤ words.now.plan.capacity }
         ensures of { IsOf words.now self.new }
-        ensures claimed { MatchResult result (λ start. (start ≡ seen) × (note self.new ≡ claimed (note self.old) seen (seen + asked))) (λ now. (seen < now) × (now ≤ words.now.plan.capacity) × (note self.new ≡ saw (note self.old) now)) }
+        ensures claimed { MatchResult result (λ start. (start ≡ seen) × (note self.new ≡ claimed (note self.old) seen (seen + asked))) (λ now. (seen < now) × ((note self.old).seen ≤ now) × (now ≤ words.now.plan.capacity) × (note self.new ≡ saw (note self.old) now)) }
+        ensures found { MatchResult result (λ start. (note self.new).found ≡ start) (λ now. (note self.new).found ≡ now) }
 
         // Nothing is noted of the block's fields, so each may be filled.
         ensures fresh { IfOk result (λ start. (r f x : ℕ) → start ≤ r → r < start + asked → f ≤ words.now.plan.letters → ¬ Has (note self.old).facts (field_at words.now.plan r f) x) }

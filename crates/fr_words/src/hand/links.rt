@@ -3,7 +3,7 @@ ghost use Rattle.std.specs.Prelude.{◌≡◌, ℕ, ◌<◌, MatchResult};
 ghost use Rattle.fr_layout.specs.declared.plan.Block.{Block};
 ghost use Rattle.fr_layout.specs.Places.{link_at};
 ghost use Rattle.fr_layout.specs.Packs.{pack_of, IsPack};
-ghost use Rattle.fr_words.specs.Notes.{wrote, met};
+ghost use Rattle.fr_words.specs.Notes.{wrote, learned, met};
 ghost use Rattle.fr_words.specs.Lawful.{Lawful, IsLawful};
 ghost use Rattle.fr_words.specs.Asks.{MayLink};
 ghost use Rattle.fr_words.specs.Hands.{note, IsOf};
@@ -20,6 +20,7 @@ impl Hand {
         requires place { row < words.now.plan.capacity }
         ensures of { IsOf words.now self.new }
         ensures noted { note self.new ≡ met (note self.old) (link_at words.now.plan row) result }
+        ensures found { (note self.new).found ≡ result }
         ensures pack { 0 < result → IsPack words.now.plan result }
         ensures lawful { Lawful (note self.old) (link_at words.now.plan row) result × IsLawful (note self.new) }
     {
@@ -38,7 +39,8 @@ impl Hand {
         requires place { row < words.now.plan.capacity }
         requires asks { (d : Block) × (q : ℕ) × (pack ≡ pack_of d q) × MayLink words.now.plan (note self.old) row d q }
         ensures of { IsOf words.now self.new }
-        ensures linked { MatchResult result (λ _. note self.new ≡ wrote (note self.old) (link_at words.now.plan row) pack) (λ there. (0 < there) × IsPack words.now.plan there × (note self.new ≡ wrote (note self.old) (link_at words.now.plan row) there)) }
+        ensures linked { MatchResult result (λ _. note self.new ≡ wrote (note self.old) (link_at words.now.plan row) pack) (λ there. (0 < there) × IsPack words.now.plan there × (note self.new ≡ learned (note self.old) (link_at words.now.plan row) there)) }
+        ensures found { MatchResult result (λ _. (note self.new).found ≡ 0) (λ there. (note self.new).found ≡ there) }
         ensures met { MatchResult result (λ _. Lawful (note self.old) (link_at words.now.plan row) 0) (λ there. Lawful (note self.old) (link_at words.now.plan row) there) }
         ensures lawful { IsLawful (note self.new) }
     {

@@ -39,6 +39,7 @@ impl Hand {
         requires place { (row < words.now.plan.capacity) × (field ≤ words.now.plan.letters) }
         ensures of { IsOf words.now self.new }
         ensures noted { note self.new ≡ met (note self.old) (field_at words.now.plan row field) result }
+        ensures found { (note self.new).found ≡ result }
         ensures complete { (b : Block) → IsComplete words.now.plan (note self.old) b → IsIn row b → (0 < result) × IsGood words.now.plan.letters b field result }
         ensures lawful { Lawful (note self.old) (field_at words.now.plan row field) result × IsLawful (note self.new) }
     {

@@ -1,6 +1,6 @@
 use Rattle.std.proofs.Common.{rules, arith, ap, ◌∙◌}
 use Rattle.fr_words.proofs.Told.{link_pack_at}
-use Rattle.fr_words.specs.Notes.{wrote}
+use Rattle.fr_words.specs.Notes.{wrote, learned}
 use Rattle.fr_words.proofs.Calls.{links_at}
 use Rattle.fr_words.proofs.hand.Hand.set_link.Goals as goal
 
@@ -14,5 +14,5 @@ pub returns-else-found-eq0-clause-linked : goal.returns-else-found-eq0-clause-li
 returns-else-found-eq0-clause-linked c = (
   (let no = c.if-found-eq0.false in omega arith),
   link_pack_at c.args.words.now.plan c.args.self.now.seat.me.0 c.requires.of.1 c.link_word-word.result c.compare_exchange-found.result c.compare_exchange-found.ensures.2.3.0 c.args.row c.link_word-word.ensures.value c.requires.place (let no = c.if-found-eq0.false in omega arith),
-  ap (λ m. m.0) (c.compare_exchange-found.ensures.2.2 c.if-found-eq0.false) ∙ (λ j. wrote c.args.self.now.seat.me.0 (c.link_word-word.ensures.value j) c.compare_exchange-found.result),
+  ap (λ m. m.0) (c.compare_exchange-found.ensures.2.2 c.if-found-eq0.false) ∙ (λ j. learned c.args.self.now.seat.me.0 (c.link_word-word.ensures.value j) c.compare_exchange-found.result),
 )
