@@ -26,7 +26,6 @@ kind_text f.AlphabetRange = codes "alphabet out of range"
 kind_text f.AlphabetPlace = codes "alphabet must be first"
 kind_text f.RayPassed = codes "ray passes 4096"
 kind_text f.ClosurePassed = codes "section words pass limit"
-kind_text f.Unbuilt = codes "not built"
 
 -- the same behind its line
 abbrev pub located_text : Fault → List ℕ

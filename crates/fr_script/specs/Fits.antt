@@ -22,7 +22,6 @@ IsOfReading f.NucleusPassed = ⊥
 IsOfReading f.TooManySections = ⊥
 IsOfReading f.RayPassed = ⊥
 IsOfReading f.ClosurePassed = ⊥
-IsOfReading f.Unbuilt = ⊥
 IsOfReading _ = Unit {0}
 
 -- no fault, or one that reading finds

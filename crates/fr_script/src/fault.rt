@@ -46,8 +46,6 @@ pub enum LineFault {
     RayPassed,
     /// A block has too many section words, or one that is too long.
     ClosurePassed,
-    /// The statement is not evaluated yet.
-    Unbuilt,
 }
 
 /// A fault, and the line where it is, counted from 1.

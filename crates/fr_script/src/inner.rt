@@ -127,9 +127,10 @@ fn read_text(alloc: Global, a: Alphabet, n: u32, text: &[u8]) -> Result<InnerOut
 pub fn read_inner(alloc: Global, a: Alphabet, n: u32, line: &[u8]) -> Result<InnerOutcome, NoMemory>
     ensures { IfOk result (λ r. spec.ReadsInner a n line.now r) }
 {
-    match bad_place(code(line)) {
+    let text = code(line);
+    match bad_place(text) {
         Some(place) => Ok(InnerOutcome::Faulty(LineFault::BadByte(place))),
         None if line.len() > LINE_LIMIT => Ok(InnerOutcome::Faulty(LineFault::LineTooLong)),
-        None => Ok(read_text(alloc, a, n, code(line))?),
+        None => Ok(read_text(alloc, a, n, text)?),
     }
 }

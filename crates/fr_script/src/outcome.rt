@@ -128,9 +128,10 @@ pub fn read_line(
 ) -> Result<LineOutcome, NoMemory>
     ensures { IfOk result (λ r. reading.ReadsLine a is_first line.now r) }
 {
-    match bad_place(code(line)) {
+    let text = code(line);
+    match bad_place(text) {
         Some(place) => Ok(LineOutcome::Faulty(LineFault::BadByte(place))),
         None if line.len() > LINE_LIMIT => Ok(LineOutcome::Faulty(LineFault::LineTooLong)),
-        None => Ok(read_text(alloc, a, is_first, code(line))?),
+        None => Ok(read_text(alloc, a, is_first, text)?),
     }
 }

@@ -35,7 +35,6 @@ impl fmt::Display for LineFault {
             LineFault::AlphabetPlace => write!(f, "alphabet must be first"),
             LineFault::RayPassed => write!(f, "ray passes 4096"),
             LineFault::ClosurePassed => write!(f, "section words pass limit"),
-            LineFault::Unbuilt => write!(f, "not built"),
         }
     }
 }

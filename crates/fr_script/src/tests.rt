@@ -96,7 +96,6 @@ fn each_fault_has_its_text(rt: HostRuntime) -> Result<(), Fail> {
             LineFault::ClosurePassed,
             "line 4: section words pass limit\n",
         ),
-        (LineFault::Unbuilt, "line 4: not built\n"),
     ];
     for (kind, expected) in cases {
         let mut text = Vec::new(rt.alloc());

@@ -1,5 +1,5 @@
 -- The reader of lines inside a block keeps the values of the trees that it read.
-use Rattle.std.proofs.Common.{◌≡◌, ℕ, suc, ◌+◌, ◌<◌, Bool, true, false, cond, List, [], ◌∷◌, Option, Some, None, refl, ap, sym, ◌∙◌, map, drop, length, get_or, add-one, drop-cons}
+use Rattle.std.proofs.Common.{◌≡◌, ℕ, suc, ◌+◌, ◌<◌, Bool, true, false, cond, List, [], ◌∷◌, ◌++◌, Option, Some, None, refl, ap, sym, ◌∙◌, map, drop, length, get_or, add-one, drop-cons}
 use Rattle.std.proofs.lemmas.List.{drop-map}
 use Rattle.fr_syntax.specs.declared.token.Mark.TheVariants as m
 use Rattle.fr_syntax.specs.declared.token.Placed.{Placed}
@@ -7,6 +7,9 @@ use Rattle.fr_syntax.specs.declared.statement.SecName.{SecName}
 use Rattle.fr_syntax.specs.declared.recursion.RecursionLine.{RecursionLine}
 use Rattle.fr_syntax.specs.declared.sections.Head.{Head}
 use Rattle.fr_syntax.specs.declared.sections.Sections.{Sections}
+use Rattle.fr_syntax.specs.declared.sections.SectionPlace.{SectionPlace}
+use Rattle.fr_syntax.specs.declared.sections.SectionPlace.TheVariants as sc
+use Rattle.fr_syntax.specs.declared.cycles.CyclePlace.TheVariants as cy
 use Rattle.fr_syntax.specs.declared.recursion.Spot.{Spot}
 use Rattle.fr_syntax.specs.declared.recursion.Spot.TheVariants as sp
 use Rattle.fr_syntax.specs.declared.recursion.RecursionReading.{RecursionReading}
@@ -24,12 +27,16 @@ abbrev pub done_secs : Option SecsTree → List (List SecName)
 done_secs None = []
 done_secs (Some secs) = secs_value secs
 
-abbrev pub sections_value : List ℕ → Option SecsTree → Sections
-sections_value name secs = record { name = name; done = done_secs secs }
+abbrev pub sections_value : List ℕ → Option SecsTree → List SecName → SectionPlace → Sections
+sections_value name secs word place = record { name = name; done = done_secs secs; word = word; place = place }
 
 abbrev pub done_word : Option SecWordTree → List SecName
 done_word None = []
 done_word (Some word) = secword_value word
+
+-- a product and a name after it
+abbrev pub with_last : Option SecWordTree → List ℕ → List SecName
+with_last word last = done_word word ++ record { name = last; inverse = false } ∷ []
 
 abbrev pub head_value : THead → Head
 head_value (Bare name) = record { name = name; sections = None }
@@ -55,53 +62,59 @@ abbrev pub spot_value : ℕ → TSpot → Spot
 spot_value d AtName = sp.Name
 spot_value d (AtEquals name) = sp.Equals name
 spot_value d (AtBody name) = sp.Body name
-spot_value d (AtSection name secs) = sp.Section (sections_value name secs)
-spot_value d (AfterOne name secs) = sp.AfterOne (sections_value name secs)
-spot_value d (AfterName name secs word last) = sp.AfterName (sections_value name secs) (done_word word) last
-spot_value d (AtMinus name secs word last) = sp.Minus (sections_value name secs) (done_word word) last
-spot_value d (AtInverseOne name secs word last) = sp.InverseOne (sections_value name secs) (done_word word) last
-spot_value d (AfterWord name secs word) = sp.AfterWord (sections_value name secs) (secword_value word)
-spot_value d (AtNextName name secs word) = sp.NextName (sections_value name secs) (secword_value word)
+spot_value d (AtSection name secs) = sp.Sections (sections_value name secs [] sc.Section)
+spot_value d (AfterOne name secs) = sp.Sections (sections_value name secs [] sc.AfterOne)
+spot_value d (AfterName name secs word last) = sp.Sections (sections_value name secs (with_last word last) sc.AfterName)
+spot_value d (AtMinus name secs word last) = sp.Sections (sections_value name secs (with_last word last) sc.Minus)
+spot_value d (AtInverseOne name secs word last) = sp.Sections (sections_value name secs (with_last word last) sc.InverseOne)
+spot_value d (AfterWord name secs word) = sp.Sections (sections_value name secs (secword_value word) sc.AfterInverse)
+spot_value d (AtNextName name secs word) = sp.Sections (sections_value name secs (secword_value word) sc.NextName)
 spot_value d (AfterSections name secs) = sp.AfterSections (head_value (Sectioned name secs))
 spot_value d (AtFirst head) = sp.First (head_value head)
-spot_value d (AtNumber head cycles numbers) = sp.Number (record { head = head_value head; done = done_cycles d cycles; current = done_numbers d numbers; refused = refused_numbers d numbers (refused_cycles d cycles) })
-spot_value d (AfterNumber head cycles numbers) = sp.AfterNumber (record { head = head_value head; done = done_cycles d cycles; current = numbers_value d numbers; refused = refuse_numbers d numbers (refused_cycles d cycles) })
-spot_value d (AfterCycle head cycles) = sp.AfterCycle (record { head = head_value head; done = cycle_list_value d cycles; current = []; refused = refuse_cycle_list d cycles false })
+spot_value d (AtNumber head cycles numbers) = sp.Cycles (record { head = head_value head; done = done_cycles d cycles; current = done_numbers d numbers; refused = refused_numbers d numbers (refused_cycles d cycles); place = cy.Number })
+spot_value d (AfterNumber head cycles numbers) = sp.Cycles (record { head = head_value head; done = done_cycles d cycles; current = numbers_value d numbers; refused = refuse_numbers d numbers (refused_cycles d cycles); place = cy.AfterNumber })
+spot_value d (AfterCycle head cycles) = sp.Cycles (record { head = head_value head; done = cycle_list_value d cycles; current = []; refused = refuse_cycle_list d cycles false; place = cy.AfterCycle })
 spot_value d (AfterEmpty head) = sp.AfterEmpty (head_value head)
 
 abbrev pub after_value : ℕ → Option TSpot → Option Spot
 after_value d None = None
 after_value d (Some spot) = Some (spot_value d spot)
 
-same_sec : (d : ℕ) (name : List ℕ) (secs : Option SecsTree) (sec : SecTree) (token : Lexeme) →
-    spec.end_section (sections_value name secs) (sec_value sec) token ≡ after_value d (end_sec name secs sec token)
-same_sec d name None sec (Sign m.Comma) = refl
-same_sec d name (Some secs) sec (Sign m.Comma) = refl
-same_sec d name None sec (Sign m.Greater) = refl
-same_sec d name (Some secs) sec (Sign m.Greater) = refl
-same_sec d name secs sec _ = refl
+same_sec : (d : ℕ) (name : List ℕ) (secs : Option SecsTree) (sec : SecTree) (place : SectionPlace) (token : Lexeme) →
+    spec.in_sections (spec.end_section (sections_value name secs (sec_value sec) place) token) ≡ after_value d (end_sec name secs sec token)
+same_sec d name None sec place (Sign m.Comma) = refl
+same_sec d name (Some secs) sec place (Sign m.Comma) = refl
+same_sec d name None sec place (Sign m.Greater) = refl
+same_sec d name (Some secs) sec place (Sign m.Greater) = refl
+same_sec d name secs sec place _ = refl
 
-same_word : (d : ℕ) (name : List ℕ) (secs : Option SecsTree) (word : SecWordTree) (token : Lexeme) →
-    spec.after_word (sections_value name secs) (secword_value word) token ≡ after_value d (end_word name secs word token)
-same_word d name secs word (Sign m.Star) = refl
-same_word d name secs word token = same_sec d name secs (Names word) token
+same_word : (d : ℕ) (name : List ℕ) (secs : Option SecsTree) (word : SecWordTree) (place : SectionPlace) (token : Lexeme) →
+    spec.in_sections (spec.after_word (sections_value name secs (secword_value word) place) token) ≡ after_value d (end_word name secs word token)
+same_word d name secs word place (Sign m.Star) = refl
+same_word d name secs word place token = same_sec d name secs (Names word) place token
 
-same_name : (d : ℕ) (name : List ℕ) (secs : Option SecsTree) (word : Option SecWordTree) (last : List ℕ) (token : Lexeme) →
-    spec.after_name (sections_value name secs) (done_word word) last token ≡ after_value d (end_name name secs word last token)
-same_name d name secs word last (Sign m.Caret) = refl
-same_name d name secs None last token = same_word d name secs (OneName (Forward last)) token
-same_name d name secs (Some word) last token = same_word d name secs (MoreNames word (Forward last)) token
+same_name : (d : ℕ) (name : List ℕ) (secs : Option SecsTree) (word : Option SecWordTree) (last : List ℕ) (place : SectionPlace) (token : Lexeme) →
+    spec.in_sections (spec.after_name (sections_value name secs (with_last word last) place) token) ≡ after_value d (end_name name secs word last token)
+same_name d name secs word last place (Sign m.Caret) = refl
+same_name d name secs None last place token = same_word d name secs (OneName (Forward last)) place token
+same_name d name secs (Some word) last place token = same_word d name secs (MoreNames word (Forward last)) place token
 
-same_one : (d : ℕ) (name : List ℕ) (secs : Option SecsTree) (text : List ℕ) (b : Bool) → is_one text ≡ b →
-    spec.section_step (sections_value name secs) (Number text) ≡ after_value d (cond b (Some (AfterOne name secs)) None)
-same_one d name secs text true h = rw h refl
-same_one d name secs text false h = rw h refl
+same_one : (d : ℕ) (name : List ℕ) (secs : Option SecsTree) (text : List ℕ) (place : SectionPlace) (b : Bool) → is_one text ≡ b →
+    spec.in_sections (spec.section_step (sections_value name secs [] place) (Number text)) ≡ after_value d (cond b (Some (AfterOne name secs)) None)
+same_one d name secs text place true h = rw h refl
+same_one d name secs text place false h = rw h refl
 
-same_inverse : (d : ℕ) (name : List ℕ) (secs : Option SecsTree) (word : Option SecWordTree) (last text : List ℕ) (b : Bool) → is_one text ≡ b →
-    spec.inverse_step (sections_value name secs) (done_word word) last (Number text) ≡ after_value d (cond b (Some (AfterWord name secs (join_word word (Inverse last)))) None)
-same_inverse d name secs None last text true h = rw h refl
-same_inverse d name secs (Some word) last text true h = rw h refl
-same_inverse d name secs word last text false h = rw h refl
+-- the last name of a product is inverted
+pub invert_last-last : (word : List SecName) (last : SecName) → spec.invert_last (word ++ last ∷ []) ≡ word ++ record { name = last.name; inverse = true } ∷ []
+invert_last-last [] last = refl
+invert_last-last (first ∷ []) last = refl
+invert_last-last (first ∷ other ∷ word) last = ap (λ l. first ∷ l) (invert_last-last (other ∷ word) last)
+
+same_inverse : (d : ℕ) (name : List ℕ) (secs : Option SecsTree) (word : Option SecWordTree) (last text : List ℕ) (place : SectionPlace) (b : Bool) → is_one text ≡ b →
+    spec.in_sections (spec.inverse_step (sections_value name secs (with_last word last) place) (Number text)) ≡ after_value d (cond b (Some (AfterWord name secs (join_word word (Inverse last)))) None)
+same_inverse d name secs None last text place true h = rw h refl
+same_inverse d name secs (Some word) last text place true h = rw h (ap (λ l. Some (sp.Sections (sections_value name secs l sc.AfterInverse))) (invert_last-last (secword_value word) (record { name = last; inverse = false })))
+same_inverse d name secs word last text place false h = rw h refl
 
 same_take : (d : ℕ) (spot : TSpot) (token : Lexeme) → spec.take d (spot_value d spot) token ≡ after_value d (take_tree spot token)
 same_take d AtName (Name name) = refl
@@ -109,12 +122,12 @@ same_take d (AtEquals name) (Sign m.Equals) = refl
 same_take d (AtBody name) (Sign m.Less) = refl
 same_take d (AtBody name) (Sign m.LeftParen) = refl
 same_take d (AtSection name secs) (Name last) = refl
-same_take d (AtSection name secs) (Number text) = same_one d name secs text (is_one text) refl
-same_take d (AfterOne name secs) token = same_sec d name secs Trivial token
-same_take d (AfterName name secs word last) token = same_name d name secs word last token
+same_take d (AtSection name secs) (Number text) = same_one d name secs text sc.Section (is_one text) refl
+same_take d (AfterOne name secs) token = same_sec d name secs Trivial sc.AfterOne token
+same_take d (AfterName name secs word last) token = same_name d name secs word last sc.AfterName token
 same_take d (AtMinus name secs word last) (Sign m.Minus) = refl
-same_take d (AtInverseOne name secs word last) (Number text) = same_inverse d name secs word last text (is_one text) refl
-same_take d (AfterWord name secs word) token = same_word d name secs word token
+same_take d (AtInverseOne name secs word last) (Number text) = same_inverse d name secs word last text sc.InverseOne (is_one text) refl
+same_take d (AfterWord name secs word) token = same_word d name secs word sc.AfterInverse token
 same_take d (AtNextName name secs word) (Name last) = refl
 same_take d (AfterSections name secs) (Sign m.LeftParen) = refl
 same_take d (AtFirst head) (Number text) = refl

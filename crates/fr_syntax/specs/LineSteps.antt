@@ -8,6 +8,9 @@ use Rattle.fr_syntax.specs.declared.tree.Expr.{Expr}
 use Rattle.fr_syntax.specs.declared.statement.Statement.{Statement}
 use Rattle.fr_syntax.specs.declared.statement.Statement.TheVariants as st
 use Rattle.fr_syntax.specs.declared.reader.ReadExpr.{ReadExpr}
+use Rattle.fr_syntax.specs.declared.reader.Reader.{Reader}
+use Rattle.fr_syntax.specs.declared.follow.After.{After}
+use Rattle.fr_syntax.specs.declared.follow.After.TheVariants as af
 use Rattle.fr_syntax.specs.declared.line.Line.TheVariants as l
 use Rattle.fr_syntax.specs.declared.line.Goal.{Goal}
 use Rattle.fr_syntax.specs.declared.line.Goal.TheVariants as g
@@ -81,6 +84,12 @@ follow d g.Ray expr notes token = ray_step d expr notes token
 follow d g.Order expr notes token = order_step expr notes token
 follow d (g.Nucleus exprs) expr notes token = nucleus_step exprs expr notes token
 follow d _ expr notes token = None
+
+-- what a token after an expression did in the program, which left this goal and this reader
+abbrev pub followed : After → Goal → Reader → Option Spot
+followed af.Expr goal reader = Some (sp.Expr goal reader)
+followed (af.Moves spot) goal reader = Some spot
+followed af.Stuck goal reader = None
 
 -- what a token does that the reader of the expression took, or that stands behind it
 abbrev pub on_step : ℕ → Goal → Lexeme → e.Stepped → Option Spot

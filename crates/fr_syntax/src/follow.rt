@@ -17,19 +17,41 @@ use fr_alphabet::{Alphabet, NoMemory};
 use sqlite_items::Items;
 use std::alloc::Global;
 
+/// What a token after an expression does.
+#[derive(Drop)]
+pub enum After {
+    /// A further expression has begun.
+    Expr,
+    /// The line goes on here.
+    Moves(Spot),
+    /// No line goes on so.
+    Stuck,
+}
+
+fn moves(next: Option<Spot>) -> After
+    ensures { (goal : Goal) (reader : Reader) → spec.followed result goal reader ≡ next }
+{
+    match next {
+        Some(next) => After::Moves(next),
+        None => After::Stuck,
+    }
+}
+
 fn second_step(
     alloc: Global,
     a: Alphabet,
+    goal: &mut Goal,
+    reader: &mut Reader,
     left: Expr,
-    notes: Notes,
     token: Token<'_>,
-) -> Result<Option<Spot>, NoMemory>
-    ensures { IfOk result (λ s. s ≡ spec.on_fresh (Goal.Second left) (step a (begun notes) (seen token.entry))) }
+) -> Result<After, NoMemory>
+    ensures { IfOk result (λ s. spec.followed s goal.new reader.new ≡ spec.on_fresh (Goal.Second left) (step a (begun reader.old.notes) (seen token.entry))) }
 {
-    let mut reader = Reader::new(alloc, notes);
+    *goal = Goal::Second(left);
+    reader.restart(alloc);
     match reader.step(alloc, a, token)? {
-        Step::Next => Ok(Some(Spot::Expr(Goal::Second(left), reader))),
-        _ => Ok(None),
+        Step::Next => Ok(After::Expr),
+        _ => Ok(After::Stuck),
     }
 }
 
@@ -87,39 +109,41 @@ fn order_step(expr: Expr, notes: Notes, token: Token<'_>) -> Option<Spot>
 
 fn nucleus_step(
     alloc: Global,
-    mut exprs: Items<Expr>,
+    exprs: &mut Items<Expr>,
+    reader: &mut Reader,
     expr: Expr,
-    notes: Notes,
     token: Token<'_>,
-) -> Result<Option<Spot>, NoMemory>
-    ensures { IfOk result (λ s. s ≡ spec.nucleus_step exprs expr notes (seen token.entry)) }
+) -> Result<After, NoMemory>
+    ensures { IfOk result (λ s. spec.followed s (Goal.Nucleus exprs.new) reader.new ≡ spec.nucleus_step exprs.old expr reader.old.notes (seen token.entry)) }
 {
     match token {
         Token::Mark(Mark::Comma) => {
-            push(alloc, &mut exprs, expr)?;
-            Ok(Some(Spot::Expr(Goal::Nucleus(exprs), Reader::new(alloc, notes))))
+            push(alloc, exprs, expr)?;
+            reader.restart(alloc);
+            Ok(After::Expr)
         }
-        _ => Ok(None),
+        _ => Ok(After::Stuck),
     }
 }
 
-/// What comes after an expression that was read for this goal, and a token after it; `None` where no line goes on so.
+/// What a token does after an expression that was read for this goal. A further expression is read in
+/// place, since a list may have many.
 pub fn follow(
     alloc: Global,
     a: Alphabet,
-    goal: Goal,
+    goal: &mut Goal,
+    reader: &mut Reader,
     expr: Expr,
-    notes: Notes,
     token: Token<'_>,
-) -> Result<Option<Spot>, NoMemory>
-    ensures { IfOk result (λ s. s ≡ spec.follow a goal expr notes (seen token.entry)) }
+) -> Result<After, NoMemory>
+    ensures { IfOk result (λ s. spec.followed s goal.new reader.new ≡ spec.follow a goal.old expr reader.old.notes (seen token.entry)) }
 {
     match goal {
-        Goal::First => second_step(alloc, a, expr, notes, token),
-        Goal::Act => act_step(alloc, a, expr, notes, token),
-        Goal::Ray => ray_step(alloc, a, expr, notes, token),
-        Goal::Order => Ok(order_step(expr, notes, token)),
-        Goal::Nucleus(exprs) => nucleus_step(alloc, exprs, expr, notes, token),
-        _ => Ok(None),
+        Goal::First => second_step(alloc, a, goal, reader, expr, token),
+        Goal::Act => Ok(moves(act_step(alloc, a, expr, reader.notes, token)?)),
+        Goal::Ray => Ok(moves(ray_step(alloc, a, expr, reader.notes, token)?)),
+        Goal::Order => Ok(moves(order_step(expr, reader.notes, token))),
+        Goal::Nucleus(exprs) => nucleus_step(alloc, exprs, reader, expr, token),
+        _ => Ok(After::Stuck),
     }
 }

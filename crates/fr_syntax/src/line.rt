@@ -6,7 +6,7 @@ ghost use Rattle.fr_syntax.specs.Lines.{lexeme};
 ghost use Rattle.fr_syntax.specs.LineSteps as spec;
 ghost use Rattle.fr_syntax.specs.LineValues.{Reads};
 
-use crate::follow::follow;
+use crate::follow::{After, follow};
 use crate::keyword::Keyword;
 use crate::lists::{exact, push};
 use crate::name::Name;
@@ -115,22 +115,6 @@ fn keyword_step(alloc: Global, keyword: Option<Keyword>) -> Option<Spot>
     }
 }
 
-/// A token after an expression that was read for this.
-fn follow_expr(
-    alloc: Global,
-    a: Alphabet,
-    spot: Spot,
-    expr: Expr,
-    token: Token<'_>,
-) -> Result<Option<Spot>, NoMemory>
-    ensures { IfOk result (λ s. s ≡ spec.follow_expr a spot expr (seen token.entry)) }
-{
-    match spot {
-        Spot::Expr(goal, reader) => follow(alloc, a, goal, expr, reader.notes, token),
-        _ => Ok(None),
-    }
-}
-
 fn period_step(
     alloc: Global,
     a: Alphabet,
@@ -187,8 +171,17 @@ impl Spot {
     ) -> Result<bool, NoMemory>
         ensures { IfOk result (λ goes. spec.moved goes self.new ≡ spec.follow_expr a self.old expr (seen token.entry)) }
     {
-        let next = follow_expr(alloc, a, replace(self, Spot::Keyword), expr, token)?;
-        Ok(self.move_to(next))
+        match self {
+            Spot::Expr(goal, reader) => match follow(alloc, a, goal, reader, expr, token)? {
+                After::Expr => Ok(true),
+                After::Moves(next) => {
+                    *self = next;
+                    Ok(true)
+                }
+                After::Stuck => Ok(false),
+            },
+            _ => Ok(false),
+        }
     }
 
     fn take_outside(
@@ -199,19 +192,12 @@ impl Spot {
     ) -> Result<bool, NoMemory>
         ensures { IfOk result (λ goes. spec.moved goes self.new ≡ spec.take_outside a self.old (seen token.entry)) }
     {
-        let next = replace(self, Spot::Keyword).after(alloc, a, token)?;
-        Ok(self.move_to(next))
-    }
-
-    fn move_to(&mut self, next: Option<Spot>) -> bool
-        ensures { spec.moved result self.new ≡ next }
-    {
-        match next {
+        match replace(self, Spot::Keyword).after(alloc, a, token)? {
             Some(next) => {
                 *self = next;
-                true
+                Ok(true)
             }
-            None => false,
+            None => Ok(false),
         }
     }
 

@@ -79,6 +79,13 @@ impl Reader {
         }
     }
 
+    /// Begins a further expression of the line.
+    pub fn restart(&mut self, alloc: Global)
+        ensures { self.new ≡ spec.begun self.old.notes }
+    {
+        *self = Reader::new(alloc, self.notes);
+    }
+
     /// Takes a token. After `Ends` and `Stuck` the reader is done, and only its notes tell something.
     pub fn step(&mut self, alloc: Global, a: Alphabet, token: Token<'_>) -> Result<Step, NoMemory>
         ensures { IfOk result (λ s. spec.stepped s self.new ≡ spec.step a self.old (seen token.entry)) }

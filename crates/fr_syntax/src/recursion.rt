@@ -6,15 +6,15 @@ ghost use Rattle.fr_syntax.specs.Lines.{lexeme};
 ghost use Rattle.fr_syntax.specs.RecursionSteps as spec;
 ghost use Rattle.fr_syntax.specs.RecursionFaults.{ReadsRecursion};
 
-use crate::cycles::{Cycles, fresh, with_cycle, with_number};
+use crate::cycles::{CyclePlace, Cycles, fresh};
 use crate::name::Name;
-use crate::numbers::is_one_text;
-use crate::sections::{Head, Sections, bare, headed, with_name, with_section};
-use crate::statement::{SecName, SecWord};
+use crate::sections::{Head, SectionStep, Sections, bare, headed, opened};
+use crate::statement::SecWord;
 use crate::token::{Mark, Placed, Token};
 use fr_alphabet::{Alphabet, NoMemory};
 use sqlite_items::Items;
 use std::alloc::Global;
+use std::mem::replace;
 
 /// A line inside a block, as it is written. A number that is no letter stands as 0 in its cycle.
 #[derive(Drop)]
@@ -32,24 +32,15 @@ pub enum Spot {
     Equals(Name),
     /// A `<` or a `(`.
     Body(Name),
-    Section(Sections),
-    /// What follows the section 1.
-    AfterOne(Sections),
-    /// What follows a name in a section.
-    AfterName(Sections, Items<SecName>, Name),
-    /// The `-` of an inverse.
-    Minus(Sections, Items<SecName>, Name),
-    /// Its `1`.
-    InverseOne(Sections, Items<SecName>, Name),
-    AfterWord(Sections, Items<SecName>),
-    /// The name after a `*`.
-    NextName(Sections, Items<SecName>),
+    /// A token of the sections.
+    Sections(Sections),
+    /// The `(` of the cycles, if any.
     AfterSections(Head),
     /// A number, or the `)` of no cycles.
     First(Head),
-    Number(Cycles),
-    AfterNumber(Cycles),
-    AfterCycle(Cycles),
+    /// A token of the cycles.
+    Cycles(Cycles),
+    /// Nothing.
     AfterEmpty(Head),
 }
 
@@ -79,32 +70,6 @@ fn equals_step(name: Name, token: Token<'_>) -> Option<Spot>
     }
 }
 
-fn minus_step(s: Sections, word: Items<SecName>, name: Name, token: Token<'_>) -> Option<Spot>
-    ensures { result ≡ spec.minus_step s word name (seen token.entry) }
-{
-    match token {
-        Token::Mark(Mark::Minus) => Some(Spot::InverseOne(s, word, name)),
-        _ => None,
-    }
-}
-
-fn next_name_step(
-    alloc: Global,
-    s: Sections,
-    word: Items<SecName>,
-    token: Token<'_>,
-) -> Result<Option<Spot>, NoMemory>
-    ensures { IfOk result (λ r. r ≡ spec.next_name_step s word (seen token.entry)) }
-{
-    match token {
-        Token::Name(name) => {
-            let name = Name::from_bytes(alloc, name)?;
-            Ok(Some(Spot::AfterName(s, word, name)))
-        }
-        _ => Ok(None),
-    }
-}
-
 fn open_first(head: Head, token: Token<'_>) -> Option<Spot>
     ensures { result ≡ spec.open_first head (seen token.entry) }
 {
@@ -114,107 +79,13 @@ fn open_first(head: Head, token: Token<'_>) -> Option<Spot>
     }
 }
 
-fn open_next(c: Cycles, token: Token<'_>) -> Option<Spot>
-    ensures { result ≡ spec.open_next c (seen token.entry) }
-{
-    match token {
-        Token::Mark(Mark::LeftParen) => Some(Spot::Number(c)),
-        _ => None,
-    }
-}
-
 fn body_step(alloc: Global, name: Name, token: Token<'_>) -> Option<Spot>
     ensures { result ≡ spec.body_step name (seen token.entry) }
 {
     match token {
-        Token::Mark(Mark::Less) => Some(Spot::Section(Sections {
-            name,
-            done: Items::new(alloc),
-        })),
+        Token::Mark(Mark::Less) => Some(Spot::Sections(opened(alloc, name))),
         Token::Mark(Mark::LeftParen) => Some(Spot::First(bare(name))),
         _ => None,
-    }
-}
-
-fn section_step(alloc: Global, s: Sections, token: Token<'_>) -> Result<Option<Spot>, NoMemory>
-    ensures { IfOk result (λ r. r ≡ spec.section_step s (seen token.entry)) }
-{
-    match token {
-        Token::Name(name) => {
-            let name = Name::from_bytes(alloc, name)?;
-            Ok(Some(Spot::AfterName(s, Items::new(alloc), name)))
-        }
-        Token::Number(digits) => {
-            if is_one_text(digits) {
-                Ok(Some(Spot::AfterOne(s)))
-            } else {
-                Ok(None)
-            }
-        }
-        _ => Ok(None),
-    }
-}
-
-fn end_section(
-    s: Sections,
-    word: Items<SecName>,
-    token: Token<'_>,
-) -> Result<Option<Spot>, NoMemory>
-    ensures { IfOk result (λ r. r ≡ spec.end_section s word (seen token.entry)) }
-{
-    match token {
-        Token::Mark(Mark::Comma) => Ok(Some(Spot::Section(with_section(s, word)?))),
-        Token::Mark(Mark::Greater) => {
-            let s = with_section(s, word)?;
-            Ok(Some(Spot::AfterSections(headed(s))))
-        }
-        _ => Ok(None),
-    }
-}
-
-fn after_word(s: Sections, word: Items<SecName>, token: Token<'_>) -> Result<Option<Spot>, NoMemory>
-    ensures { IfOk result (λ r. r ≡ spec.after_word s word (seen token.entry)) }
-{
-    match token {
-        Token::Mark(Mark::Star) => Ok(Some(Spot::NextName(s, word))),
-        _ => end_section(s, word, token),
-    }
-}
-
-fn after_name(
-    s: Sections,
-    word: Items<SecName>,
-    name: Name,
-    token: Token<'_>,
-) -> Result<Option<Spot>, NoMemory>
-    ensures { IfOk result (λ r. r ≡ spec.after_name s word name (seen token.entry)) }
-{
-    match token {
-        Token::Mark(Mark::Caret) => Ok(Some(Spot::Minus(s, word, name))),
-        _ => {
-            let word = with_name(word, name, false)?;
-            after_word(s, word, token)
-        }
-    }
-}
-
-fn inverse_step(
-    s: Sections,
-    word: Items<SecName>,
-    name: Name,
-    token: Token<'_>,
-) -> Result<Option<Spot>, NoMemory>
-    ensures { IfOk result (λ r. r ≡ spec.inverse_step s word name (seen token.entry)) }
-{
-    match token {
-        Token::Number(digits) => {
-            if is_one_text(digits) {
-                Ok(Some(Spot::AfterWord(s, with_name(word, name, true)?)))
-            } else {
-                Ok(None)
-            }
-        }
-        _ => Ok(None),
     }
 }
 
@@ -228,60 +99,72 @@ fn first_step(
 {
     match token {
         Token::Number(digits) => {
-            let c = fresh(alloc, head);
-            Ok(Some(Spot::AfterNumber(with_number(a, c, digits)?)))
+            let mut cycles = fresh(alloc, head);
+            cycles.add_number(a, digits)?;
+            Ok(Some(Spot::Cycles(cycles)))
         }
         Token::Mark(Mark::RightParen) => Ok(Some(Spot::AfterEmpty(head))),
         _ => Ok(None),
     }
 }
 
-fn number_step(a: Alphabet, c: Cycles, token: Token<'_>) -> Result<Option<Spot>, NoMemory>
-    ensures { IfOk result (λ r. r ≡ spec.number_step a c (seen token.entry)) }
-{
-    match token {
-        Token::Number(digits) => Ok(Some(Spot::AfterNumber(with_number(a, c, digits)?))),
-        _ => Ok(None),
-    }
-}
-
-fn after_number(alloc: Global, c: Cycles, token: Token<'_>) -> Result<Option<Spot>, NoMemory>
-    ensures { IfOk result (λ r. r ≡ spec.after_number c (seen token.entry)) }
-{
-    match token {
-        Token::Mark(Mark::Comma) => Ok(Some(Spot::Number(c))),
-        Token::Mark(Mark::RightParen) => Ok(Some(Spot::AfterCycle(with_cycle(alloc, c)?))),
-        _ => Ok(None),
-    }
-}
-
 impl Spot {
-    /// Goes on by a token; None where no line goes on so.
-    pub fn take(
-        self,
+    /// Goes on by a token; false where no line goes on so, and then the spot tells nothing.
+    pub fn take(&mut self, alloc: Global, a: Alphabet, token: Token<'_>) -> Result<bool, NoMemory>
+        ensures { IfOk result (λ goes. spec.moved goes self.new ≡ spec.take a self.old (seen token.entry)) }
+    {
+        match self {
+            // Sections and cycles are read in place, since a line may have many tokens in them.
+            Spot::Sections(sections) => match sections.take(alloc, token)? {
+                SectionStep::Next => Ok(true),
+                SectionStep::Ends => {
+                    self.end_sections();
+                    Ok(true)
+                }
+                SectionStep::Stuck => Ok(false),
+            },
+            Spot::Cycles(cycles) => cycles.take(alloc, a, token),
+            _ => self.take_outside(alloc, a, token),
+        }
+    }
+
+    fn end_sections(&mut self)
+        ensures { self.new ≡ spec.end_sections self.old }
+    {
+        *self = match replace(self, Spot::Name) {
+            Spot::Sections(sections) => Spot::AfterSections(headed(sections)),
+            other => other,
+        };
+    }
+
+    fn take_outside(
+        &mut self,
         alloc: Global,
         a: Alphabet,
         token: Token<'_>,
-    ) -> Result<Option<Spot>, NoMemory>
-        ensures { IfOk result (λ r. r ≡ spec.take a self (seen token.entry)) }
+    ) -> Result<bool, NoMemory>
+        ensures { IfOk result (λ goes. spec.moved goes self.new ≡ spec.take_outside a self.old (seen token.entry)) }
+    {
+        match replace(self, Spot::Name).after(alloc, a, token)? {
+            Some(next) => {
+                *self = next;
+                Ok(true)
+            }
+            None => Ok(false),
+        }
+    }
+
+    // What comes after a token outside sections and cycles; `None` where no line goes on so.
+    fn after(self, alloc: Global, a: Alphabet, token: Token<'_>) -> Result<Option<Spot>, NoMemory>
+        ensures { IfOk result (λ r. r ≡ spec.take_outside a self (seen token.entry)) }
     {
         match self {
             Spot::Name => name_step(alloc, token),
             Spot::Equals(name) => Ok(equals_step(name, token)),
             Spot::Body(name) => Ok(body_step(alloc, name, token)),
-            Spot::Section(s) => section_step(alloc, s, token),
-            Spot::AfterOne(s) => end_section(s, Items::new(alloc), token),
-            Spot::AfterName(s, word, name) => after_name(s, word, name, token),
-            Spot::Minus(s, word, name) => Ok(minus_step(s, word, name, token)),
-            Spot::InverseOne(s, word, name) => inverse_step(s, word, name, token),
-            Spot::AfterWord(s, word) => after_word(s, word, token),
-            Spot::NextName(s, word) => next_name_step(alloc, s, word, token),
             Spot::AfterSections(head) => Ok(open_first(head, token)),
             Spot::First(head) => first_step(alloc, a, head, token),
-            Spot::Number(c) => number_step(a, c, token),
-            Spot::AfterNumber(c) => after_number(alloc, c, token),
-            Spot::AfterCycle(c) => Ok(open_next(c, token)),
-            Spot::AfterEmpty(_) => Ok(None),
+            _ => Ok(None),
         }
     }
 
@@ -292,17 +175,18 @@ impl Spot {
         match self {
             Spot::AfterSections(head) => told(head, Items::new(alloc), false),
             Spot::AfterEmpty(head) => told(head, Items::new(alloc), false),
-            Spot::AfterCycle(c) => {
-                let Cycles {
-                    head,
-                    done,
-                    current: _,
-                    refused,
-                } = c;
-                told(head, done, refused)
-            }
+            Spot::Cycles(cycles) => finish_cycles(cycles),
             _ => None,
         }
+    }
+}
+
+fn finish_cycles(cycles: Cycles) -> Option<RecursionLine>
+    ensures { result ≡ spec.finish_cycles cycles.place cycles }
+{
+    match cycles.place {
+        CyclePlace::AfterCycle => told(cycles.head, cycles.done, cycles.refused),
+        _ => None,
     }
 }
 
@@ -340,9 +224,8 @@ fn step_through(
 {
     let mut spot = Spot::Name;
     for (k, token) in tokens.iter().enumerate() {
-        match spot.take(alloc, a, token.token)? {
-            Some(next) => spot = next,
-            None => return Ok(RecursionReading::Syntax(k)),
+        if !spot.take(alloc, a, token.token)? {
+            return Ok(RecursionReading::Syntax(k));
         }
     }
     match spot.finish(alloc) {

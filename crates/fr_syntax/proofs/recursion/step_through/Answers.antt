@@ -1,5 +1,5 @@
-use Rattle.std.proofs.Common.{refl, sym, ◌∙◌}
-use Rattle.fr_syntax.specs.RecursionSteps.{reading}
+use Rattle.std.proofs.Common.{refl, ap, sym, ◌∙◌}
+use Rattle.fr_syntax.specs.RecursionSteps.{reading, moved}
 use Rattle.fr_syntax.proofs.RecursionValueLaws.{goes_on, stops}
 use Rattle.fr_syntax.proofs.recursion.step_through.Goals as goal
 
@@ -7,8 +7,12 @@ pub loop-k-init : goal.loop-k-init
 unfolding reading
 loop-k-init c = refl
 
-pub returns-in-None : goal.returns-in-None
-returns-in-None c = stops _ _ c.loop-k.spot c.args.tokens.now _ _ c.loop-k-test.true (sym c.in-None.is ∙ c.in_ok-next.ensures) c.loop-k.invariant
+pub returns-then-not-branch : goal.returns-then-not-branch
+returns-then-not-branch c =
+    stops _ _ c.loop-k.spot c.args.tokens.now _ _ c.loop-k-test.true
+    (sym (ap (λ goes. moved goes c.take.new.self) c.if-not-branch.true) ∙ c.in_ok-take.ensures) c.loop-k.invariant
 
 pub loop-k-preserved : goal.loop-k-preserved
-loop-k-preserved c = goes_on _ _ c.loop-k.spot c.in-Some.next c.args.tokens.now _ _ c.loop-k-test.true (sym c.in-Some.is ∙ c.in_ok-next.ensures) c.loop-k.invariant
+loop-k-preserved c =
+    goes_on _ _ c.loop-k.spot c.take.new.self c.args.tokens.now _ _ c.loop-k-test.true
+    (sym (ap (λ goes. moved goes c.take.new.self) c.if-not-branch.false) ∙ c.in_ok-take.ensures) c.loop-k.invariant
