@@ -4,6 +4,7 @@ pub mod FindLaws
 pub mod FixedLaws
 pub mod IdentityLaws
 pub mod InverseLaws
+pub mod KeyTableLaws
 pub mod LimitLaws
 pub mod MarkLaws
 pub mod MemberLaws

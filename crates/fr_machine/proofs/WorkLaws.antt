@@ -2,7 +2,7 @@
 use Rattle.std.proofs.Common.{ℕ, ◌≡◌, ◌<◌, List, length, get_or, sym, ◌∙◌, ap, subst, arith}
 use Rattle.std.specs.List.{All, Contains}
 use Rattle.std.proofs.lemmas.List.{get_or_default, get_or-map, length-map}
-use Rattle.std.proofs.lemmas.List.Elements.{All-get_or}
+use Rattle.std.proofs.lemmas.List.Elements.{All-get_or, All-contains_itself}
 use Rattle.fr_machine.specs.declared.row.Row.{Row}
 use Rattle.fr_machine.specs.declared.signature.Signed.{Signed}
 use Rattle.fr_machine.specs.Refinement.{signature_at, signed_rows}
@@ -31,11 +31,9 @@ order_has rows of todo order s d h c =
     let at : item ≡ sign rows of s = get_or-map (sign rows of) todo c.0 s d c.1 ∙ ap (sign rows of) c.2 in
     (w.0, w.1, ap (λ x. x.row) (get_or_default order w.0 d item w.1 ∙ w.2 ∙ at))
 
-pub order_from : (rows : List Row) (of of' todo : List ℕ) (work order order' : List Signed) → work ≡ signed_rows rows of' todo → of' ≡ of → All (Contains work) order → All (Contains order) work → order' ≡ order → IsOrder rows of todo order'
-order_from rows of of' todo work order order' e f inside whole g =
-    let h : work ≡ signed_rows rows of todo = e ∙ ap (λ xs. signed_rows rows xs todo) f in
-    let P : List Signed → Type 0 = λ xs. All (Contains xs) order in
-    let Q : List Signed → Type 0 = λ xs. All (Contains order) xs in
+pub order_from : (rows : List Row) (of of' todo : List ℕ) (work order : List Signed) → work ≡ signed_rows rows of' todo → of' ≡ of → order ≡ work → IsOrder rows of todo order
+order_from rows of of' todo work order e f g =
+    let h : order ≡ signed_rows rows of todo = g ∙ e ∙ ap (λ xs. signed_rows rows xs todo) f in
     let R : List Signed → Type 0 = λ xs. IsOrder rows of todo xs in
-    let o : IsOrder rows of todo order = record { inside = subst P h inside; whole = subst Q h whole } in
-    subst R (sym g) o
+    let o : IsOrder rows of todo (signed_rows rows of todo) = record { inside = All-contains_itself (signed_rows rows of todo); whole = All-contains_itself (signed_rows rows of todo) } in
+    subst R (sym h) o

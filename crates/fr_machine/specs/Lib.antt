@@ -8,3 +8,4 @@ pub mod Minimal
 pub mod Inverses
 pub mod Members
 pub mod Predecessors
+pub mod KeyTables

@@ -1,14 +1,13 @@
 -- How a partition of rows into classes is refined. Moore's refinement splits a class by the classes of the next rows, and
 -- after Hopcroft the larger part keeps its number. That only changed rows are looked at again is this project's own.
-use Rattle.std.specs.Prelude.{ℕ, ◌≡◌, ◌≢◌, ◌<◌, ◌≤◌, ◌+◌, ◌⊎◌, ◌==◌, Bool, true, false, if◌then◌else◌, List, [], ◌∷◌, ◌++◌, length, map, take, slice_index, slice_index_or, slice_set, Option, Some}
+use Rattle.std.specs.Prelude.{ℕ, ◌≡◌, ◌≢◌, ◌<◌, ◌≤◌, ◌+◌, ◌⊎◌, ◌==◌, Bool, true, false, if◌then◌else◌, List, [], ◌∷◌, ◌++◌, length, map, take, slice_index, slice_index_or, slice_set, Some}
 use Rattle.std.specs.List.{All, Contains}
-use Rattle.std.specs.Ordering.{nat_cmp}
-use Rattle.std.specs.Cmp.Lexicographic.{slice_cmp}
-use Rattle.std.specs.BTreeMap.{BTreeMap, get}
 use Rattle.fr_model.specs.Terms.{IsAlike}
 use Rattle.fr_machine.specs.declared.row.Row.{Row}
 use Rattle.fr_machine.specs.declared.partition.Partition.{Partition}
 use Rattle.fr_machine.specs.declared.signature.Signed.{Signed}
+use Rattle.fr_machine.specs.declared.key_table.KeyTable.{KeyTable}
+use Rattle.fr_machine.specs.KeyTables.{number_in, IsKeyTable}
 use Rattle.fr_machine.specs.Rows.{row_term, row_at}
 use Rattle.fr_alphabet.specs.Padded.{padded}
 
@@ -71,31 +70,58 @@ pub record IsRefining (rows : List Row) (p : Partition) : Type 0 where
 abbrev pub signed_rows : List Row → List ℕ → List ℕ → List Signed
 signed_rows rows of todo = map (λ s. record { class = slice_index of s; signature = signature_at rows of s; row = s }) todo
 
--- the number that a key has in a map
-abbrev pub number_in : BTreeMap (List ℕ) ℕ → List ℕ → Option ℕ
-number_in seen key = get (slice_cmp nat_cmp) seen key
+-- the item at a place
+abbrev pub work_at : List Signed → ℕ → Signed
+work_at work k = slice_index_or work k (record { class = 0; signature = []; row = 0 })
+
+-- one of the first n items has this class and signature
+abbrev pub IsOfWork : List Signed → ℕ → ℕ → List ℕ → Type 0
+IsOfWork work n c q = (k : ℕ) × (k < n) × ((work_at work k).class ≡ c) × ((work_at work k).signature ≡ q)
+
+-- a row with its class and signature was counted for or against the signature of its class, if that has no clean row
+pub record IsVoted (p p' : Partition) (leads leads' : List ℕ) (c : ℕ) (q : List ℕ) : Type 0 where
+  pub of : p'.of.items ≡ p.of.items
+  pub clean : p'.clean.items ≡ p.clean.items
+  pub dirty : p'.dirty.items ≡ p.dirty.items
+  pub todo : p'.todo.items ≡ p.todo.items
+  pub as_many : length leads' ≡ length leads
+  pub size : length p'.known.items ≡ length p.known.items
+  pub others : (j : ℕ) → (j ≢ c) ⊎ (0 < clean_at p c) → (known_at p' j ≡ known_at p j) × (slice_index leads' j ≡ slice_index leads j)
+  pub own : (known_at p' c ≡ q) ⊎ ((known_at p' c ≡ known_at p c) × ((0 < slice_index leads c) ⊎ (0 < clean_at p c)))
+
+-- each class of the rows that has no clean one has the signature of one of them, and no other class has another one than before
+pub record IsElected (p p' : Partition) (work : List Signed) : Type 0 where
+  pub of : p'.of.items ≡ p.of.items
+  pub clean : p'.clean.items ≡ p.clean.items
+  pub dirty : p'.dirty.items ≡ p.dirty.items
+  pub todo : p'.todo.items ≡ p.todo.items
+  pub size : length p'.known.items ≡ length p.known.items
+  pub kept : (c : ℕ) → 0 < clean_at p c → known_at p' c ≡ known_at p c
+  pub elected : (k : ℕ) → k < length work → (0 < clean_at p (work_at work k).class) ⊎ IsOfWork work (length work) (work_at work k).class (known_at p' (work_at work k).class)
 
 -- the numbers that are given to keys are class numbers
-abbrev pub IsSeen : Partition → BTreeMap (List ℕ) ℕ → Type 0
-IsSeen p seen = (c : ℕ) (q : List ℕ) (m : ℕ) → number_in seen (c ∷ q) ≡ Some m → m < length p.known.items
+pub record IsSeen (p : Partition) (seen : KeyTable) : Type 0 where
+  pub table : IsKeyTable seen
+  pub below : (c : ℕ) (q : List ℕ) (m : ℕ) → number_in seen (c ∷ q) ≡ Some m → m < length p.known.items
 
 -- m is the class to which a row of class c with signature q goes
-pub record IsTarget (p p' : Partition) (seen seen' : BTreeMap (List ℕ) ℕ) (c : ℕ) (q : List ℕ) (m : ℕ) : Type 0 where
+pub record IsTarget (p p' : Partition) (seen seen' : KeyTable) (c : ℕ) (q : List ℕ) (m : ℕ) : Type 0 where
   pub of : p'.of.items ≡ p.of.items
   pub dirty : p'.dirty.items ≡ p.dirty.items
   pub todo : p'.todo.items ≡ p.todo.items
+  pub table : IsKeyTable seen'
   pub as_many : length p'.clean.items ≡ length p'.known.items
   pub longer : (length p'.known.items ≡ length p.known.items) ⊎ ((m ≡ length p.known.items) × (length p'.known.items ≡ length p.known.items + 1))
   pub inside : (number_in seen (c ∷ q) ≡ Some m) ⊎ (m < length p'.known.items)
   pub here : (number_in seen (c ∷ q) ≡ Some m) ⊎ (known_at p' m ≡ q)
-  pub kept : (j : ℕ) → j < length p.known.items → (j ≢ c) ⊎ (0 < clean_at p j) → known_at p' j ≡ known_at p j
+  pub kept : (j : ℕ) → j < length p.known.items → known_at p' j ≡ known_at p j
   pub tally : (j : ℕ) → clean_at p' j ≡ clean_at p j
-  pub named : (m ≡ c) ⊎ ((number_in seen' (c ∷ q) ≡ Some m) × (0 < clean_at p c) × (known_at p c ≢ q))
-  pub finds : (key : List ℕ) (x : ℕ) → number_in seen' key ≡ Some x → (number_in seen key ≡ Some x) ⊎ ((key ≡ c ∷ q) × (x ≡ m) × (m ≡ length p.known.items) × (m < length p'.known.items) × (known_at p' m ≡ q) × (0 < clean_at p c) × (known_at p c ≢ q))
+  pub named : (m ≡ c) ⊎ ((number_in seen' (c ∷ q) ≡ Some m) × (known_at p c ≢ q))
+  pub finds : (key : List ℕ) (x : ℕ) → number_in seen' key ≡ Some x → (number_in seen key ≡ Some x) ⊎ ((key ≡ c ∷ q) × (x ≡ m) × (m ≡ length p.known.items) × (m < length p'.known.items) × (known_at p' m ≡ q) × (known_at p c ≢ q))
   pub keeps : (key : List ℕ) (x : ℕ) → number_in seen key ≡ Some x → number_in seen' key ≡ Some x
 
 -- row s with signature q goes to its class if it is dirty, and the flag tells whether that is another one than before
-pub data IsPlaced (p p' : Partition) (seen seen' : BTreeMap (List ℕ) ℕ) (s : ℕ) (q : List ℕ) (moves : Bool) : Type 0 where
+pub data IsPlaced (p p' : Partition) (seen seen' : KeyTable) (s : ℕ) (q : List ℕ) (moves : Bool) : Type 0 where
   idle : flag_at p s ≡ false → p' ≡ p → seen' ≡ seen → moves ≡ false → IsPlaced p p' seen seen' s q moves
   goes : (t : Partition) (m : ℕ) → flag_at p s ≡ true → IsTarget p t seen seen' (class_in p s) q m
       → p'.of.items ≡ slice_set t.of.items s m → p'.dirty.items ≡ slice_set t.dirty.items s false → p'.clean.items ≡ slice_set t.clean.items m (slice_index t.clean.items m + 1) → p'.known.items ≡ t.known.items → p'.todo.items ≡ t.todo.items

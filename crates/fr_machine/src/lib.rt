@@ -2,6 +2,7 @@
 #![tactic(auto)]
 
 mod fixed;
+mod key_table;
 mod machine;
 mod members;
 mod minimal;

@@ -1,27 +1,25 @@
 //! Rows that act alike, found by refining a partition of all rows.
 
-ghost use Rattle.std.specs.Prelude.{◌≡◌, ℕ, ◌<◌, ◌≤◌, ◌⊎◌, Some, None, [], ◌∷◌, IfOk, OnOk, MatchOption, length, true, slice_index_or, replicate};
+ghost use Rattle.std.specs.Prelude.{◌≡◌, ◌≢◌, ℕ, ◌<◌, ◌≤◌, ◌⊎◌, Some, None, [], ◌∷◌, IfOk, OnOk, MatchOption, length, true, slice_index_or, replicate};
 ghost use Rattle.fr_model.specs.Permutations.{numbers_from};
 ghost use Rattle.std.specs.List.{All, Contains};
-ghost use Rattle.std.specs.BTreeMap.{Updates};
-ghost use Rattle.std.specs.Cmp.Lexicographic.{slice_cmp};
-ghost use Rattle.std.specs.Ordering.{nat_cmp};
 ghost use Rattle.fr_machine.specs.Rows.{IsRow, IsMachine};
 ghost use Rattle.fr_machine.specs.Members.{IsMembers};
 ghost use Rattle.fr_machine.specs.Numberings.{IsNumbering};
 ghost use Rattle.fr_machine.specs.Classes.{AreClasses, HasMoreClasses};
-ghost use Rattle.fr_machine.specs.Refinement.{signature_of, signed_rows, number_in, clean_at, flag_at, known_at, IsTarget, IsPlaced, IsMarked, IsWider, IsSeen, IsUsed, IsTallied, IsQueued, IsRefining, IsSettled, IsSpread, IsSpreadOver, Progress};
+ghost use Rattle.fr_machine.specs.KeyTables.{IsKeyTable};
+ghost use Rattle.fr_machine.specs.Refinement.{signed_rows, class_in, known_at, IsElected, IsVoted, IsTarget, IsPlaced, IsMarked, IsWider, IsSeen, IsUsed, IsTallied, IsQueued, IsRefining, IsSettled, IsSpread, IsSpreadOver, Progress};
 ghost use Rattle.fr_machine.specs.Predecessors.{AreLinks, ArePredecessors, lists_of};
 
+use crate::key_table::{Key, KeyTable};
 use crate::machine::Machine;
 use crate::members::Members;
 use crate::numbering::by_first_places;
 use crate::predecessors::Predecessors;
 use crate::row::Row;
-use crate::signature::{Signature, Signed, in_order, with_signatures};
+use crate::signature::{Signature, Signed, with_signatures};
 use fr_alphabet::NoMemory;
 use std::alloc::Global;
-use std::collections::BTreeMap;
 use std::mem;
 
 /// The class of each row: rows have one class exactly where they send each word to the same word, and classes are
@@ -72,9 +70,6 @@ fn refined(alloc: Global, rows: &[Row], limit: usize) -> Result<Partition, NoMem
     }
     Ok(partition)
 }
-
-// A class and a signature.
-type Key = [u16; 17];
 
 // The classes so far. A row is clean while none of its next rows has come to another class since its own was chosen.
 #[derive(Drop)]
@@ -198,8 +193,9 @@ impl Partition {
         requires todo { self.old.todo.items ≡ [] }
         ensures { IfOk result (λ moved. IsSettled rows.now self.old.of.items (length self.old.known.items) self.new moved.items) }
     {
-        let work = in_order(alloc, with_signatures(alloc, rows, &self.of, todo)?)?;
-        let mut seen = BTreeMap::new(alloc);
+        let work = with_signatures(alloc, rows, &self.of, todo)?;
+        self.elect(alloc, &work)?;
+        let mut seen = KeyTable::new(alloc, work.len())?;
         let mut moved = Vec::new(alloc);
         for item in &work {
             if self.place(&mut seen, item)? {
@@ -209,11 +205,47 @@ impl Partition {
         Ok(moved)
     }
 
+    // Takes for the signature of each class that has no clean row, and a row among these, that of one of them: the one that
+    // more than half of them have, if there is one, by the majority vote of Boyer and Moore. So such a class leaves its
+    // number to most of its rows; this is for speed alone.
+    fn elect(&mut self, alloc: Global, work: &[Signed]) -> Result<(), NoMemory>
+        requires classes { All (λ w. w.class < length self.old.known.items) work.now }
+        requires as_many { length self.old.clean.items ≡ length self.old.known.items }
+        ensures { OnOk result (IsElected self.old self.new work.now) }
+    {
+        let mut leads = vec![in alloc; 0u32; self.known.len()]?;
+        for item in work {
+            self.vote(&mut leads, item);
+        }
+        Ok(())
+    }
+
+    // Counts a row for or against the signature of its class. `leads` has for each class how many more were for it.
+    fn vote(&mut self, leads: &mut Vec<u32>, item: &Signed)
+        requires class { item.now.class < length self.old.known.items }
+        requires as_many { length self.old.clean.items ≡ length self.old.known.items }
+        requires leads { length leads.old.items ≡ length self.old.known.items }
+        ensures { IsVoted self.old self.new leads.old.items leads.new.items item.now.class item.now.signature }
+    {
+        let class = item.class as usize;
+        if self.clean[class] > 0 {
+            return;
+        }
+        if self.known[class] == item.signature {
+            leads[class] = leads[class].saturating_add(1);
+        } else if leads[class] > 0 {
+            leads[class] -= 1;
+        } else {
+            self.known[class] = item.signature;
+            leads[class] = 1;
+        }
+    }
+
     // Sends a row to its class if it is dirty, and tells whether that is another one than before.
-    fn place(&mut self, seen: &mut BTreeMap<Key, u16>, item: &Signed) -> Result<bool, NoMemory>
+    fn place(&mut self, seen: &mut KeyTable, item: &Signed) -> Result<bool, NoMemory>
         requires row { item.now.row < length self.old.of.items }
         requires tallied { IsTallied self.old }
-        requires used { IsUsed self.old }
+        requires other { known_at self.old (class_in self.old item.now.row) ≢ item.now.signature → length self.old.known.items < 65536 }
         requires seen { IsSeen self.old seen.old }
         ensures { IfOk result (λ moves. IsPlaced self.old self.new seen.old seen.new item.now.row item.now.signature moves) }
     {
@@ -229,37 +261,32 @@ impl Partition {
         Ok(target != class)
     }
 
-    // The class to which a row of this class with this signature goes: its own, if it has no clean row or if the
-    // signature is that of its clean rows, else another, which is the same for each row with both.
+    // The class to which a row of this class with this signature goes: its own, if that is the signature of the class, else
+    // another, which is the same for each row with both.
     fn target(
         &mut self,
-        seen: &mut BTreeMap<Key, u16>,
+        seen: &mut KeyTable,
         class: u16,
         signature: &Signature,
     ) -> Result<u16, NoMemory>
         requires class { class < length self.old.known.items }
         requires as_many { length self.old.clean.items ≡ length self.old.known.items }
-        requires room { 0 < clean_at self.old class → length self.old.known.items < 65536 }
+        requires room { known_at self.old class ≢ signature.now → length self.old.known.items < 65536 }
+        requires table { IsKeyTable seen.old }
         ensures { IfOk result (λ m. IsTarget self.old self.new seen.old seen.new class signature.now m) }
     {
-        if self.clean[class as usize] == 0 {
-            self.known[class as usize] = *signature;
-            return Ok(class);
-        }
         if self.known[class as usize] == *signature {
             return Ok(class);
         }
         let key = key_of(class, signature);
-        match number_of(seen, &key) {
-            Some(number) => Ok(number),
-            None => {
-                let number = self.known.len() as u16;
-                enter(seen, &key, number)?;
-                self.known.push(*signature)?;
-                self.clean.push(0)?;
-                Ok(number)
-            }
+        if let Some(number) = seen.number_of(&key) {
+            return Ok(number);
         }
+        let number = self.known.len() as u16;
+        seen.enter(&key, number)?;
+        self.known.push(*signature)?;
+        self.clean.push(0)?;
+        Ok(number)
     }
 
     // Takes the rows before these for dirty.
@@ -321,19 +348,4 @@ fn key_of(class: u16, signature: &Signature) -> Key
     key[0] = class;
     key[1..].copy_from_slice(signature);
     key
-}
-
-// The number of the class that was made for a key.
-fn number_of(seen: &BTreeMap<Key, u16>, key: &Key) -> Option<u16>
-    ensures { result ≡ number_in seen.now key.now }
-{
-    seen.get(key).copied()
-}
-
-// Enters the number of the class that is made for a key.
-fn enter(seen: &mut BTreeMap<Key, u16>, key: &Key, number: u16) -> Result<(), NoMemory>
-    ensures { OnOk result (Updates (slice_cmp nat_cmp) seen.old seen.new key.now (Some number)) }
-{
-    seen.insert(*key, number)?;
-    Ok(())
 }

@@ -1,7 +1,7 @@
 //! Signatures of rows: what two rows of one class must share to stay in one class.
 
 ghost use Rattle.std.specs.Prelude.{◌≡◌, ◌<◌, ◌≤◌, IfOk, length};
-ghost use Rattle.std.specs.List.{All, Contains};
+ghost use Rattle.std.specs.List.{All};
 ghost use Rattle.fr_machine.specs.Rows.{IsRow};
 ghost use Rattle.fr_machine.specs.Refinement.{signature_of, signed_rows};
 
@@ -13,7 +13,7 @@ use std::alloc::Global;
 pub type Signature = [u16; 16];
 
 /// A row with its class and signature.
-#[derive(Clone, Copy, PartialEq, Eq, PartialOrd, Ord)]
+#[derive(Clone, Copy)]
 pub struct Signed {
     /// The class of the row.
     pub class: u16,
@@ -57,45 +57,4 @@ pub fn with_signatures(
         })?;
     }
     Ok(work)
-}
-
-// The end of the run of rows of one class that begins at a place.
-fn run_end(work: &[Signed], start: usize) -> usize
-    requires { start < length work.now }
-    ensures some { start < result }
-    ensures within { result ≤ length work.now }
-{
-    let mut end = start + 1;
-    while end < work.len() && work[end].class == work[start].class {
-        end += 1;
-    }
-    end
-}
-
-// For each class the row in the middle of its run. Where rows of one class stand together, and rows of one signature
-// within it, this has the signature that more than half of the run have, if there is one.
-fn middle_ones(alloc: Global, work: &[Signed]) -> Result<Vec<Signed>, NoMemory>
-    ensures { IfOk result (λ first. All (Contains work.now) first.items) }
-{
-    let mut first = Vec::new(alloc);
-    let mut start = 0;
-    while start < work.len() {
-        let end = run_end(work, start);
-        first.push(work[start + (end - start) / 2])?;
-        start = end;
-    }
-    Ok(first)
-}
-
-/// The rows in the order in which they go to their classes. For each class one of its most frequent signature comes
-/// first, so that a class without clean rows leaves its number to most of its rows; this is for speed alone. The only
-/// error is want of memory.
-pub fn in_order(alloc: Global, mut work: Vec<Signed>) -> Result<Vec<Signed>, NoMemory>
-    ensures inside { IfOk result (λ order. All (Contains work.items) order.items) }
-    ensures whole { IfOk result (λ order. All (Contains order.items) work.items) }
-{
-    work.sort_unstable();
-    let mut order = middle_ones(alloc, &work)?;
-    order.extend_from_slice(&work)?;
-    Ok(order)
 }

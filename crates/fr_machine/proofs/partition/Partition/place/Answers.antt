@@ -5,8 +5,7 @@ use Rattle.std.proofs.lemmas.Bool.Decides.{eqb_tells}
 use Rattle.std.proofs.lemmas.List.{get_or_read}
 use Rattle.std.proofs.lemmas.List.Elements.{All-get_or}
 use Rattle.fr_machine.specs.declared.partition.Partition.{Partition}
-use Rattle.fr_machine.specs.Refinement.{clean_at, flag_at, class_in, IsPlaced, IsTarget, IsTallied}
-use Rattle.fr_machine.proofs.SettlingLaws.{room}
+use Rattle.fr_machine.specs.Refinement.{flag_at, class_in, known_at, IsPlaced, IsTarget, IsTallied}
 use Rattle.fr_machine.proofs.TargetLaws.{target_inside, clean_room}
 use Rattle.fr_machine.proofs.partition.Partition.place.Goals as goal
 
@@ -21,13 +20,12 @@ pub target-requires : goal.target-requires
 target-requires c =
     let p = c.args.self.now in
     let s = c.args.item.now.row in
-    let t : IsTallied p = c.requires.tallied in
     let e : c.index-class.result.now ≡ class_in p s = get_or_read p.of.items s _ c.requires.row c.index-class.ensures 0 in
-    let f : flag_at p s ≡ true = sym (get_or_read p.dirty.items s c.index.result.now (omega (arith, c.requires.row, c.requires.tallied.flags)) c.index.ensures true) ∙ c.if-not-index.false in
     record {
-      class = class_lt p s _ t c.requires.row c.index-class.ensures;
+      class = class_lt p s _ c.requires.tallied c.requires.row c.index-class.ensures;
       as_many = c.requires.tallied.as_many;
-      room = λ h. room p s t c.requires.used c.requires.row f (let P : ℕ → Type 0 = λ n. 0 < clean_at p n in subst P e h);
+      room = λ apart. c.requires.other (λ k. apart (ap (known_at p) e ∙ k));
+      table = c.requires.seen.table;
     }
 
 pub index_mut-requires-3 : goal.index_mut-requires-3
