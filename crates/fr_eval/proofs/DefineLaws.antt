@@ -34,6 +34,7 @@ use Rattle.fr_expr.specs.Names.{Names, either, above, Matches, AreNames, AreBoun
 use Rattle.fr_expr.specs.Tables.{bindings_of}
 use Rattle.fr_expr.specs.Evaluation.{Makes, StopsAt, StopsFull, StopsEarly, Evaluates}
 use Rattle.fr_expr.proofs.EvaluationLaws.{Makes-none, Reads-none}
+use Rattle.fr_expr.proofs.NameLaws.{either_either, either_none}
 use Rattle.fr_eval.specs.declared.ends.LineEnd.{LineEnd}
 use Rattle.fr_eval.specs.declared.ends.LineEnd.TheVariants as l
 use Rattle.fr_eval.specs.declared.ends.Stop.{Stop}
@@ -44,14 +45,6 @@ use Rattle.fr_eval.proofs.BlockLaws.{length-system}
 use Rattle.fr_eval.specs.Entering.{AreHandlesFrom, AreEntered, EntersNames, EndsWith}
 
 -- ---- bindings that a line sees
-either_either : (a b c : Option Handle) → either (either a b) c ≡ either a (either b c)
-either_either (Some h) b c = refl
-either_either None b c = refl
-
-either_none : (a : Option Handle) → either a None ≡ a
-either_none (Some h) = refl
-either_none None = refl
-
 above-append : (line : ℕ) (bs cs : List Binding) → above line (bs ++ cs) ≡ either (above line cs) (above line bs)
 above-append line [] cs = sym (either_none (above line cs))
 above-append line (b ∷ bs) cs =
@@ -191,19 +184,6 @@ known_name line old new names names' n h k a more is = λ q.
     one : (test : Bool) → All (λ (b : Binding). IsKnown new b.handle) (if test then record { line = line; handle = h } ∷ [] else [])
     one true = All-cons (λ (b : Binding). IsKnown new b.handle) (record { line = line; handle = h }) [] is (All-nil (λ (b : Binding). IsKnown new b.handle))
     one false = All-nil (λ (b : Binding). IsKnown new b.handle)
-
--- names that are bound above a line are bound at it
-pub bound_above : (line : ℕ) (known : ℕ → Option (List ℕ)) (names : Names) → AreAllKnown known names → AreBound known names line
-bound_above line known names a = λ q. at (names q) (a q)
-  where
-    chosen : (o : Option Handle) (h : Handle) (test : Bool) → IfSome o (λ h. IsKnown known h) → IsKnown known h → IfSome (either o (if test then Some h else None)) (λ h. IsKnown known h)
-    chosen (Some g) h test i k = i
-    chosen None h true i k = k
-    chosen None h false i k = tt
-
-    at : (bs : List Binding) → All (λ b. IsKnown known b.handle) bs → IfSome (above line bs) (λ h. IsKnown known h)
-    at [] a = tt
-    at (b ∷ bs) a = chosen (above line bs) b.handle (nat_lt b.line line) (at bs (All-tail (λ (b : Binding). IsKnown known b.handle) b bs a)) (All-head (λ (b : Binding). IsKnown known b.handle) b bs a)
 
 -- ---- how a definition ends
 pub line_is : (rs : List Recursion) (k : ℕ) (r : Recursion) → k < length rs → get_or rs k r ≡ r → r.line ≡ line_at rs k

@@ -11,3 +11,4 @@ pub mod GeneratorLaws
 pub mod NucleusLaws
 pub mod OrderLaws
 pub mod RowTextLaws
+pub mod TestLaws

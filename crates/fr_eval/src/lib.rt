@@ -10,6 +10,8 @@ mod names;
 mod nucleus;
 mod order;
 mod rows;
+#[cfg(test)]
+mod tests;
 mod texts;
 
 pub use answers::ask;

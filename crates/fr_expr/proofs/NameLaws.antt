@@ -6,11 +6,12 @@ use Rattle.fr_store.specs.declared.handle.Handle.{Handle}
 use Rattle.fr_expr.specs.declared.env.Binding.{Binding}
 use Rattle.fr_expr.specs.Names.{either, above}
 
-either_either : (a b c : Option Handle) → either (either a b) c ≡ either a (either b c)
+-- bindings behind one another
+pub either_either : (a b c : Option Handle) → either (either a b) c ≡ either a (either b c)
 either_either (Some h) b c = refl
 either_either None b c = refl
 
-either_none : (a : Option Handle) → either a None ≡ a
+pub either_none : (a : Option Handle) → either a None ≡ a
 either_none (Some h) = refl
 either_none None = refl
 

@@ -3,11 +3,12 @@ use Rattle.std.proofs.lemmas.Result.{err_from_is_err_and}
 use Rattle.fr_syntax.specs.declared.statement.Statement.TheVariants as st
 use Rattle.fr_plain.specs.Expansions.{expansion}
 use Rattle.fr_expr.specs.Tables.{names_in}
-use Rattle.fr_eval.proofs.DefineLaws.{bound_above, made_early, name_binds, name_joins, name_ends, names_stay, adds_name}
+use Rattle.fr_eval.proofs.AskLaws.{bound_above}
+use Rattle.fr_eval.proofs.DefineLaws.{made_early, name_binds, name_joins, name_ends, names_stay, adds_name}
 use Rattle.fr_eval.proofs.definitions.define_name.Goals as goal
 
 pub eval-requires-clause-bound : goal.eval-requires-clause-bound
-eval-requires-clause-bound g c = bound_above c.args.line (g.S.Store.view.known c.args.store.now) (names_in c.args.env.now) c.requires.known
+eval-requires-clause-bound g c = bound_above (g.S.Store.view.known c.args.store.now) (names_in c.args.env.now) c.args.line c.requires.known
 
 pub returns-in_err-bind-in-Ok-clause-defines : goal.returns-in_err-bind-in-Ok-clause-defines
 returns-in_err-bind-in-Ok-clause-defines g c = λ scope names.
