@@ -4,7 +4,7 @@ pub mod EvaluationLaws
 pub mod ProductLaws
 pub mod RestrictionLaws
 pub mod PowerLaws
-pub mod ExpansionLaws
+pub mod SizeLaws
 pub mod FitLaws
 pub mod ScopeLaws
 pub mod SequenceLaws

@@ -4,3 +4,4 @@ pub mod MemberLaws
 pub mod OutcomeLaws
 pub mod BeginningLaws
 pub mod PlainLaws
+pub mod ExpansionLaws

@@ -20,7 +20,8 @@ use Rattle.fr_store.proofs.StoreLaws.{Keeps-trans, Continues-trans, IsKnown-keep
 use Rattle.std.proofs.lemmas.List.{take_all}
 use Rattle.fr_syntax.specs.Fits.{FitsOps}
 use Rattle.fr_expr.proofs.EvaluationLaws.{goes_from, stops, carries, one_read}
-use Rattle.fr_expr.proofs.ExpansionLaws.{expansion-out, factor_expansion-out, atom_expansion-One, atom_expansion-Named, atom_expansion-Paren, atom_expansion-Comm, expr_size-out, factor_size-out, atom_size-One, atom_size-Named, atom_size-Paren, atom_size-Comm, op_size-Power, op_size-Conj, op_expansion-Power, op_expansion-Conj, op_expansion-At}
+use Rattle.fr_plain.proofs.ExpansionLaws.{expansion-out, factor_expansion-out, atom_expansion-One, atom_expansion-Named, atom_expansion-Paren, atom_expansion-Comm, op_expansion-Power, op_expansion-Conj, op_expansion-At}
+use Rattle.fr_expr.proofs.SizeLaws.{expr_size-out, factor_size-out, atom_size-One, atom_size-Named, atom_size-Paren, atom_size-Comm, op_size-Power, op_size-Conj}
 use Rattle.fr_expr.proofs.FitLaws.{conj-fits, paren-fits, comm-fits, factor_atom-fits, factor_ops-fits, expr_some-fits, expr_factors-fits, factor_at-fits, op_at-fits}
 use Rattle.fr_expr.proofs.ScopeLaws.{names_carry, bound_keep, name_found, name_missing}
 use Rattle.fr_expr.proofs.SequenceLaws.{first_factor, product_stops_in, operations_stop_in, factor_stops, factor_goes, operation_goes, sum_next, sum_within}

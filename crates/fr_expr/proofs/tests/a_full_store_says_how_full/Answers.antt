@@ -1,6 +1,6 @@
 use Rattle.std.proofs.Common.{arith}
 use Rattle.fr_expr.proofs.FitLaws.{one-fits}
-use Rattle.fr_expr.proofs.ExpansionLaws.{atom_size-One}
+use Rattle.fr_expr.proofs.SizeLaws.{atom_size-One}
 use Rattle.fr_expr.proofs.tests.a_full_store_says_how_full.Goals as goal
 
 pub eval-value-requires-clause-fits : goal.eval-value-requires-clause-fits

@@ -1,6 +1,6 @@
 use Rattle.std.proofs.Common.{arith}
 use Rattle.fr_expr.proofs.FitLaws.{named-fits}
-use Rattle.fr_expr.proofs.ExpansionLaws.{atom_size-Named}
+use Rattle.fr_expr.proofs.SizeLaws.{atom_size-Named}
 use Rattle.fr_expr.proofs.tests.a_name_that_is_not_bound_is_refused.Goals as goal
 
 pub eval-value-requires-clause-fits : goal.eval-value-requires-clause-fits

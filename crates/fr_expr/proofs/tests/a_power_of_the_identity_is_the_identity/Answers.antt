@@ -1,6 +1,6 @@
 use Rattle.std.proofs.Common.{arith}
 use Rattle.fr_expr.proofs.FitLaws.{one-fits}
-use Rattle.fr_expr.proofs.ExpansionLaws.{atom_size-One}
+use Rattle.fr_expr.proofs.SizeLaws.{atom_size-One}
 use Rattle.fr_expr.proofs.tests.a_power_of_the_identity_is_the_identity.Goals as goal
 
 pub eval-requires-clause-fits : goal.eval-requires-clause-fits

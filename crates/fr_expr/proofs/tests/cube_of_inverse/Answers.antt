@@ -5,7 +5,7 @@ use Rattle.fr_syntax.specs.declared.tree.Atom.{Atom}
 use Rattle.fr_syntax.specs.declared.tree.Op.TheVariants as o
 use Rattle.fr_syntax.specs.Fits.{FitsExpr, expr_fits, FitsFactors, more_factors, no_factors, FitsAtom, FitsOps, more_ops, no_ops, power_fits}
 use Rattle.fr_syntax.specs.Sizes.{expr_size, factor_size, atom_size, op_size}
-use Rattle.fr_expr.proofs.ExpansionLaws.{expr_size-out, factor_size-out, op_size-Power}
+use Rattle.fr_expr.proofs.SizeLaws.{expr_size-out, factor_size-out, op_size-Power}
 use Rattle.fr_expr.proofs.tests.cube_of_inverse.Goals as goal
 
 abbrev power : Atom → Factor

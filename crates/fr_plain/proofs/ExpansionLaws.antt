@@ -1,5 +1,5 @@
 -- What an expression stands for, by its parts.
-use Rattle.std.proofs.Common.{ℕ, ◌≡◌, ◌+◌, Bool, List, map, sum, sym, ◌∙◌, ap}
+use Rattle.std.proofs.Common.{ℕ, ◌≡◌, Bool, List, map, sym, ◌∙◌, ap}
 use Rattle.fr_model.specs.Terms.{Term}
 use Rattle.fr_syntax.specs.declared.tree.Expr.{Expr, out-Expr, fold_out-Expr}
 use Rattle.fr_syntax.specs.declared.tree.Factor.{Factor, out-Factor, fold_out-Factor}
@@ -8,7 +8,6 @@ use Rattle.fr_syntax.specs.declared.tree.Atom.TheVariants as a
 use Rattle.fr_syntax.specs.declared.tree.Atom.TheOpen as layer
 use Rattle.fr_syntax.specs.declared.tree.Op.{Op, fold-roll-Op}
 use Rattle.fr_syntax.specs.declared.tree.Op.TheVariants as o
-use Rattle.fr_syntax.specs.Sizes.{atom_layer_size, op_layer_size, expr_layer_size, factor_layer_size, expr_size, factor_size, atom_size, op_size}
 use Rattle.fr_plain.specs.Scopes.{Scope, bound}
 use Rattle.fr_plain.specs.Steps.{Looked, Identity, Restricted}
 use Rattle.fr_plain.specs.Expansions.{Expansion, step, followed_by, signed_power, conjugate_of, commutator_of, operations, product_of_all, atom_layer, op_layer, expr_layer, factor_layer, expansion, atom_expansion, op_expansion, factor_expansion}
@@ -54,37 +53,3 @@ pub op_expansion-At : (scope : Scope) (w : List ℕ) (t : Term) → op_expansion
 unfolding op_expansion
 op_expansion-At scope w t =
     ap (λ (p : Op). op_expansion scope p t) (sym (o.rolls-At w)) ∙ ap (λ (f : Term → Expansion). f t) (fold-roll-Op Expansion (Term → Expansion) Expansion Expansion (atom_layer scope) op_layer expr_layer factor_layer (layer.At w))
-
--- ---- sizes
-pub expr_size-out : (e : Expr) → expr_size e ≡ sum (map factor_size (out-Expr e).factors)
-unfolding expr_size factor_size
-expr_size-out e = fold_out-Expr ℕ ℕ ℕ ℕ atom_layer_size op_layer_size expr_layer_size factor_layer_size e
-
-pub factor_size-out : (f : Factor) → factor_size f ≡ atom_size (out-Factor f).atom + sum (map op_size (out-Factor f).ops)
-unfolding factor_size atom_size op_size
-factor_size-out f = fold_out-Factor ℕ ℕ ℕ ℕ atom_layer_size op_layer_size expr_layer_size factor_layer_size f
-
-pub atom_size-One : atom_size a.One ≡ 1
-unfolding atom_size
-atom_size-One = ap atom_size (sym a.rolls-One) ∙ fold-roll-Atom ℕ ℕ ℕ ℕ atom_layer_size op_layer_size expr_layer_size factor_layer_size layer.One
-
-pub atom_size-Named : (name : List ℕ) → atom_size (a.Named name) ≡ 1
-unfolding atom_size
-atom_size-Named name = ap atom_size (sym (a.rolls-Named name)) ∙ fold-roll-Atom ℕ ℕ ℕ ℕ atom_layer_size op_layer_size expr_layer_size factor_layer_size (layer.Named name)
-
-pub atom_size-Paren : (e : Expr) → atom_size (a.Paren e) ≡ 1 + expr_size e
-unfolding atom_size expr_size
-atom_size-Paren e = ap atom_size (sym (a.rolls-Paren e)) ∙ fold-roll-Atom ℕ ℕ ℕ ℕ atom_layer_size op_layer_size expr_layer_size factor_layer_size (layer.Paren e)
-
-pub atom_size-Comm : (left right : Expr) → atom_size (a.Comm left right) ≡ 1 + (expr_size left + expr_size right)
-unfolding atom_size expr_size
-atom_size-Comm left right =
-    ap atom_size (sym (a.rolls-Comm left right)) ∙ fold-roll-Atom ℕ ℕ ℕ ℕ atom_layer_size op_layer_size expr_layer_size factor_layer_size (layer.Comm left right)
-
-pub op_size-Power : (negative : Bool) (k : ℕ) → op_size (o.Power negative k) ≡ 1
-unfolding op_size
-op_size-Power negative k = ap op_size (sym (o.rolls-Power negative k)) ∙ fold-roll-Op ℕ ℕ ℕ ℕ atom_layer_size op_layer_size expr_layer_size factor_layer_size (layer.Power negative k)
-
-pub op_size-Conj : (atom : Atom) → op_size (o.Conj atom) ≡ 1 + atom_size atom
-unfolding op_size atom_size
-op_size-Conj atom = ap op_size (sym (o.rolls-Conj atom)) ∙ fold-roll-Op ℕ ℕ ℕ ℕ atom_layer_size op_layer_size expr_layer_size factor_layer_size (layer.Conj atom)

@@ -1,0 +1,9 @@
+mod AddingPowers
+mod Counting
+mod Counts
+mod Expanded
+mod PowerFacts
+mod ConjugateFacts
+mod IdentityFacts
+mod QuestionFacts
+mod DefinitionFacts

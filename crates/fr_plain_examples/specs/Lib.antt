@@ -1,0 +1,5 @@
+pub mod Scripts
+pub mod Powers
+pub mod Conjugates
+pub mod Questions
+pub mod Definitions
