@@ -2,8 +2,10 @@ pub mod CanonLaws
 pub mod CleanCountLaws
 pub mod FindLaws
 pub mod FixedLaws
+pub mod HashLaws
 pub mod IdentityLaws
 pub mod InverseLaws
+pub mod KeyNumberLaws
 pub mod KeyTableLaws
 pub mod LimitLaws
 pub mod MarkLaws
@@ -15,6 +17,7 @@ pub mod PredecessorLaws
 pub mod RowLaws
 pub mod SettlingLaws
 pub mod SignatureLaws
+pub mod SparseLaws
 pub mod StartLaws
 pub mod TargetLaws
 pub mod WalkLaws

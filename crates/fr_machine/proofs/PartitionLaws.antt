@@ -19,6 +19,7 @@ use Rattle.fr_machine.specs.Rows.{state_of, states_of, row_term, IsRow, IsMachin
 use Rattle.fr_machine.specs.Numberings.{IsNumbering}
 use Rattle.fr_machine.specs.Classes.{AreClasses}
 use Rattle.fr_machine.specs.Refinement.{signature_of, signature_at, class_in, flag_at, known_at, IsTallied, IsUsed, IsQueued, IsWider, IsRefining, IsSettled, IsSpreadOver, Progress}
+use Rattle.fr_machine.specs.Guesses.{IsGuess, IsStable}
 use Rattle.fr_alphabet.specs.Padded.{padded}
 use Rattle.fr_machine.specs.declared.predecessors.Predecessors.{Predecessors}
 use Rattle.fr_machine.specs.Predecessors.{ArePredecessors, lists_of}
@@ -53,10 +54,10 @@ module _ (d n : ℕ) (r : Row) (small : d ≤ 8) (h : IsRow d n r) where
   signature_next of = ap (take d) (drop_at (padded r.perm) (padded (next_classes of r)) 8 (length-padded r.perm (omega (arith, h.permutes.degree)))) ∙ from_padded (next_classes of r) (length-next_classes of)
 
 module _ (d n : ℕ) (r q : Row) (small : d ≤ 8) (h : IsRow d n r) (g : IsRow d n q) where
-  same_perm : (of of' : List ℕ) → signature_of of r ≡ signature_of of' q → r.perm ≡ q.perm
+  pub same_perm : (of of' : List ℕ) → signature_of of r ≡ signature_of of' q → r.perm ≡ q.perm
   same_perm of of' e = sym (signature_perm d n r small h of) ∙ ap (λ s. take d (take 8 s)) e ∙ signature_perm d n q small g of'
 
-  same_next : (of of' : List ℕ) → signature_of of r ≡ signature_of of' q → (k : ℕ) → k < d → get_or of (get_or r.next k 0) 0 ≡ get_or of' (get_or q.next k 0) 0
+  pub same_next : (of of' : List ℕ) → signature_of of r ≡ signature_of of' q → (k : ℕ) → k < d → get_or of (get_or r.next k 0) 0 ≡ get_or of' (get_or q.next k 0) 0
   same_next of of' e k l =
       sym (get_or-next_classes d n r small h of k l)
       ∙ ap (λ s. get_or s k 0) (sym (signature_next d n r small h of) ∙ ap (λ s. take d (drop 8 s)) e ∙ signature_next d n q small g of')
@@ -122,7 +123,7 @@ Progress-from rows old p q p2 p3 before moved w x y =
     (omega (arith, x.least, ap length y.known, ap length w.known), elim x.grows [ inl e ↦ inl (y.none e ∙ x.todo) | inr l ↦ inr (omega (arith, l, ap length y.known, ap length w.known)) ])
 
 module _ (d : ℕ) (rows : List Row) (m : IsMachine d rows) where
-  row_is_at : (s : ℕ) → s < length rows → IsRow d (length rows) (row_at rows s)
+  pub row_is_at : (s : ℕ) → s < length rows → IsRow d (length rows) (row_at rows s)
   row_is_at s l = m.valid s _ l
 
   next_below : (s k : ℕ) → s < length rows → k < d → next_at rows s k < length rows
@@ -135,7 +136,7 @@ module _ (d : ℕ) (rows : List Row) (m : IsMachine d rows) where
   row_next s x a l = next_row d rows m s a (row_at rows s) (get_or_default rows s _ _ a) x l
 
   -- rows that act alike have one signature
-  alike_signature : (of : List ℕ) → ((s t : ℕ) → s < length rows → t < length rows → IsAlike (row_term rows s) (row_term rows t) → get_or of s 0 ≡ get_or of t 0)
+  pub alike_signature : (of : List ℕ) → ((s t : ℕ) → s < length rows → t < length rows → IsAlike (row_term rows s) (row_term rows t) → get_or of s 0 ≡ get_or of t 0)
       → (s t : ℕ) → s < length rows → t < length rows → IsAlike (row_term rows s) (row_term rows t) → signature_at rows of s ≡ signature_at rows of t
   alike_signature of coarse s t a b e =
       let qs = states_of rows in
@@ -180,10 +181,9 @@ module _ (d : ℕ) (rows : List Row) (m : IsMachine d rows) where
   abbrev Related : List ℕ → ℕ → ℕ → Type 0
   Related of s t = (s < length rows) × (t < length rows) × (get_or of s 0 ≡ get_or of t 0)
 
-  -- where no row is dirty, rows of one class act alike
-  pub alike_from_clean : (p : Partition) → IsRefining rows p → ((s : ℕ) → s < length rows → flag_at p s ≡ false) → (s t : ℕ) → s < length rows → t < length rows → class_in p s ≡ class_in p t → IsAlike (row_term rows s) (row_term rows t)
-  alike_from_clean p h clean s0 t0 a0 b0 e0 =
-      let of = p.of.items in
+  -- where rows of one class have one signature, they act alike
+  pub alike_from_stable : (of : List ℕ) → IsStable rows of → (s t : ℕ) → s < length rows → t < length rows → get_or of s 0 ≡ get_or of t 0 → IsAlike (row_term rows s) (row_term rows t)
+  alike_from_stable of h s0 t0 a0 b0 e0 =
       let qs = states_of rows in
       let g = IsAutomaton-states_of d rows m in
       let step : (s t : ℕ) → Related of s t → (s < length qs) × (t < length qs) × ((x : ℕ) → IsLetter d x → (image (state_at qs s).perm x ≡ image (state_at qs t).perm x) × Related of (next_state qs s x) (next_state qs t x)) =
@@ -192,7 +192,7 @@ module _ (d : ℕ) (rows : List Row) (m : IsMachine d rows) where
       let b = r.1 in
       let a' : s < length qs = rw (length-states_of rows) a in
       let b' : t < length qs = rw (length-states_of rows) b in
-      let signed : signature_at rows of s ≡ signature_at rows of t = h.settled s a (clean s a) ∙ ap (known_at p) r.2 ∙ sym (h.settled t b (clean t b)) in
+      let signed : signature_at rows of s ≡ signature_at rows of t = h s t a b r.2 in
       let perms = same_perm d (length rows) (row_at rows s) (row_at rows t) m.letters (row_is_at s a) (row_is_at t b) of of signed in
       let nexts = same_next d (length rows) (row_at rows s) (row_at rows t) m.letters (row_is_at s a) (row_is_at t b) of of signed in (
         a',
@@ -209,6 +209,10 @@ module _ (d : ℕ) (rows : List Row) (m : IsMachine d rows) where
       in
       alike_by_relation d qs qs (Related of) g g step s0 t0 (a0, b0, e0)
 
+  -- where no row is dirty, rows of one class act alike
+  pub alike_from_clean : (p : Partition) → IsRefining rows p → ((s : ℕ) → s < length rows → flag_at p s ≡ false) → (s t : ℕ) → s < length rows → t < length rows → class_in p s ≡ class_in p t → IsAlike (row_term rows s) (row_term rows t)
+  alike_from_clean p h clean = alike_from_stable p.of.items (λ s t a b e. h.settled s a (clean s a) ∙ ap (known_at p) e ∙ sym (h.settled t b (clean t b)))
+
   -- where the list of dirty rows is empty, no row is dirty
   pub clean_from_none : (p : Partition) → IsRefining rows p → IsQueued p [] → (s : ℕ) → s < length rows → flag_at p s ≡ false
   clean_from_none p h q s0 l0 = go s0 l0 (flag_at p s0) refl
@@ -224,6 +228,14 @@ module _ (d : ℕ) (rows : List Row) (m : IsMachine d rows) where
     alike = λ s t a b.
         let w = n.same s t 0 (omega (arith, h.count)) (omega (arith, h.count)) in
         ((λ e. alike_from_clean p h (clean_from_none p h q) s t a b (w.0 e)), (λ e. w.1 (h.alike s t a b e)));
+  }
+
+  -- a stable guess
+  pub AreClasses-guessed : (of : List ℕ) (count : ℕ) → IsGuess rows of count → IsStable rows of → AreClasses rows of
+  AreClasses-guessed of count h stable = record {
+    count = h.size;
+    first = h.first;
+    alike = λ s t a b. ((λ e. alike_from_stable of stable s t a b e), (λ e. h.alike s t a b e));
   }
 
   -- before the first round

@@ -9,3 +9,6 @@ pub mod Inverses
 pub mod Members
 pub mod Predecessors
 pub mod KeyTables
+pub mod Sparse
+pub mod Hashes
+pub mod Guesses

@@ -2,6 +2,7 @@
 #![tactic(auto)]
 
 mod fixed;
+mod hashes;
 mod key_table;
 mod machine;
 mod members;
@@ -11,6 +12,7 @@ mod partition;
 mod predecessors;
 mod row;
 mod signature;
+mod sparse;
 #[cfg(test)]
 mod tests;
 mod walk;

@@ -2,8 +2,9 @@
 
 ghost use Rattle.std.specs.Prelude.{◌≡◌, ◌<◌, ◌≤◌, Some, None, IfOk, MatchOption, length, slice_index_or, slice_set};
 ghost use Rattle.std.specs.List.{All};
-ghost use Rattle.fr_machine.specs.Numberings.{IsNumbering};
+ghost use Rattle.fr_machine.specs.Numberings.{IsNumbering, IsNumberingOfKeys};
 
+use crate::sparse::SparseWalk;
 use fr_alphabet::NoMemory;
 use std::alloc::Global;
 
@@ -35,4 +36,29 @@ pub fn by_first_places(alloc: Global, bound: usize, keys: &[u16]) -> Result<Vec<
         numbers.push(number)?;
     }
     Ok(numbers)
+}
+
+/// A number for each of a list of keys, and how many numbers there are.
+#[derive(Drop)]
+pub struct Numbering {
+    /// The numbers.
+    pub of: Vec<u16>,
+    /// How many there are: each of 0, 1, .. below this is that of a key, and no other.
+    pub count: usize,
+}
+
+/// The keys, at most 65,536, replaced by 0, 1, .. in the order in which they come first. The only error is want of memory.
+pub fn by_first_keys(alloc: Global, keys: &[u32]) -> Result<Numbering, NoMemory>
+    requires { length keys.now ≤ 65536 }
+    ensures { IfOk result (λ n. IsNumberingOfKeys keys.now n.of.items n.count) }
+{
+    let mut walk = SparseWalk::new(alloc, keys.len())?;
+    let mut of = Vec::with_capacity(alloc, keys.len())?;
+    for key in keys {
+        of.push(walk.number(*key)? as u16)?;
+    }
+    Ok(Numbering {
+        of,
+        count: walk.count(),
+    })
 }

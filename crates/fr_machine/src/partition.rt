@@ -7,17 +7,19 @@ ghost use Rattle.fr_machine.specs.Rows.{IsRow, IsMachine};
 ghost use Rattle.fr_machine.specs.Members.{IsMembers};
 ghost use Rattle.fr_machine.specs.Numberings.{IsNumbering};
 ghost use Rattle.fr_machine.specs.Classes.{AreClasses, HasMoreClasses};
+ghost use Rattle.fr_machine.specs.Guesses.{IsGuess, IsStable};
 ghost use Rattle.fr_machine.specs.KeyTables.{IsKeyTable};
 ghost use Rattle.fr_machine.specs.Refinement.{signed_rows, class_in, known_at, IsElected, IsVoted, IsTarget, IsPlaced, IsMarked, IsWider, IsSeen, IsUsed, IsTallied, IsQueued, IsRefining, IsSettled, IsSpread, IsSpreadOver, Progress};
 ghost use Rattle.fr_machine.specs.Predecessors.{AreLinks, ArePredecessors, lists_of};
 
+use crate::hashes::hashes;
 use crate::key_table::{Key, KeyTable};
 use crate::machine::Machine;
 use crate::members::Members;
-use crate::numbering::by_first_places;
+use crate::numbering::{Numbering, by_first_keys, by_first_places};
 use crate::predecessors::Predecessors;
 use crate::row::Row;
-use crate::signature::{Signature, Signed, with_signatures};
+use crate::signature::{Signature, Signed, signature, with_signatures};
 use fr_alphabet::NoMemory;
 use std::alloc::Global;
 use std::mem;
@@ -25,7 +27,8 @@ use std::mem;
 /// The class of each row: rows have one class exactly where they send each word to the same word, and classes are
 /// numbered from 0 in the order of their first rows. The only error is want of memory.
 ///
-/// Classes are refined as Moore does it for automata, by what rows put out and the classes of their next rows. After
+/// Where a hash of what rows put out on short words gives classes that are stable, these are they. Else
+/// classes are refined as Moore does it for automata, by what rows put out and the classes of their next rows. After
 /// Hopcroft, a row comes to another class only if that has at most half the size of the one before. So of n rows at most
 /// log n times as many come to another class, whatever the machine, and only rows before these are looked at again. The
 /// bound on time is not proved; what the classes are is.
@@ -33,6 +36,10 @@ pub fn classes(alloc: Global, m: &Machine) -> Result<Vec<u16>, NoMemory>
     ensures { IfOk result (λ of. AreClasses m.now.rows of.items) }
 {
     let rows = m.rows();
+    let guess = guess(alloc, rows)?;
+    if is_stable(alloc, rows, &guess)? {
+        return Ok(guess.of);
+    }
     let partition = refined(alloc, rows, rows.len())?;
     by_first_places(alloc, partition.known.len(), &partition.of)
 }
@@ -48,11 +55,63 @@ pub fn classes_within(
     ensures { IfOk result (λ o. MatchOption o (HasMoreClasses m.now.rows limit) (λ of. AreClasses m.now.rows of.items × (¬ HasMoreClasses m.now.rows limit))) }
 {
     let rows = m.rows();
+    let guess = guess(alloc, rows)?;
+    if guess.count > limit {
+        return Ok(None);
+    }
+    if is_stable(alloc, rows, &guess)? {
+        return Ok(Some(guess.of));
+    }
     let partition = refined(alloc, rows, limit)?;
     if partition.known.len() > limit {
         return Ok(None);
     }
     Ok(Some(by_first_places(alloc, partition.known.len(), &partition.of)?))
+}
+
+// The most letters that are looked at for a guess.
+const GUESS_DEPTH: usize = 16;
+
+// The rows in classes by a hash of what they put out on short words, so that rows that act alike are in one class. Mostly
+// these are the classes already.
+fn guess(alloc: Global, rows: &[Row]) -> Result<Numbering, NoMemory>
+    requires { (d : ℕ) × IsMachine d rows.now }
+    ensures { IfOk result (λ g. IsGuess rows.now g.of.items g.count) }
+{
+    let depth = rows.len().min(GUESS_DEPTH);
+    by_first_keys(alloc, &hashes(alloc, rows, depth)?)
+}
+
+// Whether rows of one class have one signature. If so, they act alike.
+fn is_stable(alloc: Global, rows: &[Row], guess: &Numbering) -> Result<bool, NoMemory>
+    requires machine { (d : ℕ) × IsMachine d rows.now }
+    requires guess { IsGuess rows.now guess.now.of.items guess.now.count }
+    ensures { IfOk result (λ b. b ≡ true → IsStable rows.now guess.now.of.items) }
+{
+    let known = signature_of_each(alloc, rows, guess)?;
+    for (s, row) in rows.iter().enumerate() {
+        if known[guess.of[s] as usize] != signature(row, &guess.of) {
+            return Ok(false);
+        }
+    }
+    Ok(true)
+}
+
+// For each class the signature of one of its rows.
+fn signature_of_each(
+    alloc: Global,
+    rows: &[Row],
+    guess: &Numbering,
+) -> Result<Vec<Signature>, NoMemory>
+    requires machine { (d : ℕ) × IsMachine d rows.now }
+    requires guess { IsGuess rows.now guess.now.of.items guess.now.count }
+    ensures { IfOk result (λ known. length known.items ≡ guess.now.count) }
+{
+    let mut known = vec![in alloc; [0; 16]; guess.count]?;
+    for (s, row) in rows.iter().enumerate() {
+        known[guess.of[s] as usize] = signature(row, &guess.of);
+    }
+    Ok(known)
 }
 
 // The rows in classes, until no row is dirty or there are more classes than the limit. Rows of different classes do not act

@@ -23,8 +23,8 @@ pub struct Signed {
     pub row: u16,
 }
 
-// The signature of a row under some classes.
-fn signature(row: &Row, of: &[u16]) -> Signature
+/// The signature of a row under some classes.
+pub fn signature(row: &Row, of: &[u16]) -> Signature
     requires { IsRow (length row.now.perm) (length of.now) row.now }
     ensures { result ≡ signature_of of.now row.now }
 {

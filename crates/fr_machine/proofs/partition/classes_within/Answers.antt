@@ -3,8 +3,8 @@ use Rattle.fr_machine.specs.Rows.{IsMachine}
 use Rattle.fr_machine.specs.Numberings.{IsNumbering}
 use Rattle.fr_machine.specs.Classes.{HasMoreClasses}
 use Rattle.fr_machine.specs.Refinement.{IsQueued}
-use Rattle.fr_machine.proofs.PartitionLaws.{AreClasses-from}
-use Rattle.fr_machine.proofs.LimitLaws.{HasMoreClasses-from, not-HasMoreClasses}
+use Rattle.fr_machine.proofs.PartitionLaws.{AreClasses-from, AreClasses-guessed}
+use Rattle.fr_machine.proofs.LimitLaws.{HasMoreClasses-from, HasMoreClasses-guessed, not-HasMoreClasses, not-HasMoreClasses-guessed}
 use Rattle.fr_machine.proofs.partition.classes_within.Goals as goal
 
 pub refined-requires : goal.refined-requires
@@ -38,3 +38,19 @@ returns c =
     let queued : IsQueued p [] = elim c.in_ok-partition.ensures.ends [ inl q ↦ q | inr l ↦ absurd (omega (arith, l, few)) ] in
     let numbers : IsNumbering p.of.items c.in_ok-by_first_places.field-0.items = rw c.deref.ensures.value at c.in_ok-by_first_places.ensures in
     rw (← c.rows-rows.ensures.value) (AreClasses-from c.args.m.now.alphabet rows m p c.in_ok-by_first_places.field-0.items h queued numbers, not-HasMoreClasses c.args.m.now.alphabet rows m p c.args.limit h queued few)
+
+pub returns-then-guess-limit : goal.returns-then-guess-limit
+returns-then-guess-limit c =
+    let rows = c.rows-rows.result.now in
+    let guess = c.in_ok-guess.guess in
+    let h : HasMoreClasses rows c.args.limit = HasMoreClasses-guessed rows guess.of.items guess.count c.args.limit c.in_ok-guess.ensures c.if-guess-limit.true in
+    rw c.rows-rows.ensures.value at h
+
+pub returns-then-branch : goal.returns-then-branch
+returns-then-branch c =
+    let rows = c.rows-rows.result.now in
+    let m : IsMachine c.args.m.now.alphabet rows = rw c.rows-rows.ensures.value c.rows-rows.ensures.valid in
+    let guess = c.in_ok-guess.guess in
+    let stable = c.in_ok-is_stable.ensures c.if-branch.true in
+    rw (← c.rows-rows.ensures.value)
+    (AreClasses-guessed c.args.m.now.alphabet rows m guess.of.items guess.count c.in_ok-guess.ensures stable, not-HasMoreClasses-guessed c.args.m.now.alphabet rows m guess.of.items guess.count c.args.limit c.in_ok-guess.ensures stable (omega (arith, c.if-guess-limit.false)))
