@@ -45,7 +45,7 @@ use Rattle.fr_eval.proofs.BlockLaws.{length-system}
 use Rattle.fr_eval.specs.Entering.{AreHandlesFrom, AreEntered, EntersNames, EndsWith}
 
 -- ---- bindings that a line sees
-above-append : (line : ℕ) (bs cs : List Binding) → above line (bs ++ cs) ≡ either (above line cs) (above line bs)
+pub above-append : (line : ℕ) (bs cs : List Binding) → above line (bs ++ cs) ≡ either (above line cs) (above line bs)
 above-append line [] cs = sym (either_none (above line cs))
 above-append line (b ∷ bs) cs =
     ap (λ a. either a (if nat_lt b.line line then Some b.handle else None)) (above-append line bs cs)

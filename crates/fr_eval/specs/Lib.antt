@@ -1,4 +1,5 @@
 pub mod Bindings
+pub mod LineEnds
 pub mod Telling
 pub mod NamePlaces
 pub mod Entering

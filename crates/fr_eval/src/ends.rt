@@ -12,6 +12,21 @@ pub enum LineEnd {
     Refused(LineFault),
 }
 
+impl LineEnd {
+    ghost use Rattle.std.specs.Prelude.{◌≡◌};
+    ghost use Rattle.fr_eval.specs.LineEnds as spec;
+
+    /// Whether the line has a fault.
+    pub fn is_refused(self) -> bool
+        ensures { result ≡ spec.is_refused self }
+    {
+        match self {
+            LineEnd::Fine => false,
+            LineEnd::Refused(_) => true,
+        }
+    }
+}
+
 /// Why the evaluation of a line stops.
 #[derive(Clone, Copy, Debug, PartialEq, Eq)]
 pub enum Stop {

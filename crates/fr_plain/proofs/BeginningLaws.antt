@@ -183,7 +183,7 @@ alone : (line d : ℕ) (scope : Scope) (s : Statement) (o : Outcome) (more : Lis
 alone line d scope s o more n x e y =
     statement_within line d scope s o (statement_steps scope s) [] n x (nil_right (statement_steps scope s)) (none_more d (statement_steps scope s) more n e y)
 
-first_charge : (line d : ℕ) (scope : Scope) (s : Statement) (o : Outcome) (steps : List Step) (n : ℕ) → IsStatement line d scope s o → AreFirstSteps d scope s steps n → n ≤ o.charge
+pub first_charge : (line d : ℕ) (scope : Scope) (s : Statement) (o : Outcome) (steps : List Step) (n : ℕ) → IsStatement line d scope s o → AreFirstSteps d scope s steps n → n ≤ o.charge
 first_charge line d scope s o _ _ x (within done rest n e y) = statement_within line d scope s o done rest n x e y
 first_charge line d scope (st.Alphabet a) o _ _ x (beside more n p y) = alone line d scope (st.Alphabet a) o more n x p y
 first_charge line d scope (st.Group recursions) o _ _ x (beside more n p y) = alone line d scope (st.Group recursions) o more n x p y
@@ -200,7 +200,7 @@ first_charge line d scope (st.Order e most) o _ _ x (beside more n p y) =
 first_charge line d scope (st.NucleusOf es) o _ _ x (beside more n p y) =
     reply_beside line d scope _ _ o more n x (members_covered d (values_of_all (expansions scope es)) more p) y
 
-ask_keeps : (line d : ℕ) (scope : Scope) (s : Statement) (o : Outcome) → IsAsk s → IsStatement line d scope s o → o.scope ≡ scope
+pub ask_keeps : (line d : ℕ) (scope : Scope) (s : Statement) (o : Outcome) → IsAsk s → IsStatement line d scope s o → o.scope ≡ scope
 ask_keeps line d scope (st.Alphabet a) o ask x = absurd ask
 ask_keeps line d scope (st.Group recursions) o ask x = absurd ask
 ask_keeps line d scope (st.Let name e) o ask x = absurd ask
