@@ -14,12 +14,11 @@ use Rattle.fr_machine.specs.Rows.{IsMachine, states_of, row_term}
 use Rattle.fr_machine.proofs.RowLaws.{IsAutomaton-states_of}
 use Rattle.fr_layout.specs.declared.plan.Plan.{Plan}
 use Rattle.fr_layout.specs.Meaning.{row_meaning}
-use Rattle.fr_layout.proofs.Machines.{meaning_is}
 use Rattle.fr_words.proofs.Knowing.{admitted_agrees}
 use Rattle.fr_words.specs.Asks.{Agrees, MayCache}
 use Rattle.fr_words.specs.declared.notes.Note.{Note}
-use Rattle.fr_words_examples.specs.Filling.{first_row, KnowsRow}
-use Rattle.fr_words_examples.proofs.Fillings.{spelled_from}
+use Rattle.fr_words_examples.specs.Filling.{first_block, KnowsRows}
+use Rattle.fr_words_examples.proofs.Fillings.{means}
 
 module _ (d : ℕ) (row : Row) (m : IsMachine d (row ∷ [])) (id : row.perm ≡ identity_permutation d) where
   states : List State
@@ -73,21 +72,21 @@ module _ (d : ℕ) (row : Row) (m : IsMachine d (row ∷ [])) (id : row.perm ≡
       two v l = subst (λ (x : List ℕ × List ℕ). IsAlike (Section (row_term (row ∷ []) 0) x.0) (Section (row_term (row ∷ []) 0) x.1)) (λ i. (sym (act_is v l) i, sym (act_is [] tt) i)) (one v l)
 
 -- so its square may be put into the cache
-pub may_cache : (p : Plan) (v : Note) (row : Row) (word : ℕ) → IsMachine p.letters (row ∷ []) → row.perm ≡ identity_permutation p.letters → KnowsRow p v row → word ≡ 1 → MayCache p v word
+pub may_cache : (p : Plan) (v : Note) (row : Row) (word : ℕ) → IsMachine p.letters (row ∷ []) → row.perm ≡ identity_permutation p.letters → KnowsRows p v (row ∷ []) → word ≡ 1 → MayCache p v word
 may_cache p v row word m id known is = record {
   first = 0;
   second = 0;
   third = 0;
-  first_block = first_row;
-  second_block = first_row;
-  third_block = first_row;
+  first_block = first_block (row ∷ []);
+  second_block = first_block (row ∷ []);
+  third_block = first_block (row ∷ []);
   names = is;
-  first_seen = known.handle;
-  second_seen = known.handle;
-  third_seen = known.handle;
-  product = λ Y admits. subst (λ (t : Term). IsAlike t (Product t t)) (sym (means Y (admitted_agrees p v.facts Y admits))) (square p.letters row m id);
-  few = λ Y admits. subst (λ (t : Term). HasFewPairs p.letters t t) (sym (means Y (admitted_agrees p v.facts Y admits))) (few p.letters row m id);
+  first_seen = known.handles 0 (omega arith);
+  second_seen = known.handles 0 (omega arith);
+  third_seen = known.handles 0 (omega arith);
+  product = λ Y admits. subst (λ (t : Term). IsAlike t (Product t t)) (sym (meaning Y (admitted_agrees p v.facts Y admits))) (square p.letters row m id);
+  few = λ Y admits. subst (λ (t : Term). HasFewPairs p.letters t t) (sym (meaning Y (admitted_agrees p v.facts Y admits))) (few p.letters row m id);
 }
   where
-    means : (Y : ℕ → ℕ) → Agrees v.facts Y → row_meaning p Y first_row 0 ≡ row_term (row ∷ []) 0
-    means Y agrees = meaning_is p Y first_row (row ∷ []) m refl (spelled_from p row v.facts known.fields Y agrees) 0
+    meaning : (Y : ℕ → ℕ) → Agrees v.facts Y → row_meaning p Y (first_block (row ∷ [])) 0 ≡ row_term (row ∷ []) 0
+    meaning Y agrees = means p (row ∷ []) m v.facts known.fields Y agrees 0

@@ -1,7 +1,7 @@
-use Rattle.std.proofs.Common.{◌≡◌}
+use Rattle.fr_layout.specs.Places.{field_at}
 use Rattle.fr_words.specs.Hands.{note, IsOf}
-use Rattle.fr_words_examples.specs.Filling.{filled}
+use Rattle.fr_words_examples.specs.Filling.{IsFilling}
 use Rattle.fr_words_examples.proofs.fill_row.Given as goal
 
 abbrev pub invariant-loop-field : goal.invariant-loop-field
-invariant-loop-field l = record { of : IsOf l.words l.hand; filled : note l.hand ≡ filled l.words.plan l.row l.field }
+invariant-loop-field l = record { of : IsOf l.words l.hand; filling : IsFilling l.words.plan (note l.hand) l.rows (field_at l.words.plan l.row l.field) }
