@@ -8,7 +8,7 @@ use Rattle.fr_model.specs.Words.{IsLetter}
 use Rattle.fr_model.specs.Permutations.{IsPermutation, image}
 use Rattle.fr_model.specs.Systems.{Factor, System, product_output, product_section}
 use Rattle.fr_machine.specs.declared.row.Row.{Row}
-use Rattle.fr_model.specs.FreeWords.{reduced, section_word, IsSectionWord}
+use Rattle.fr_model.specs.FreeWords.{reduced, IsSectionWord}
 use Rattle.fr_model.proofs.TermLaws.{IsWord-append}
 use Rattle.fr_model.proofs.FreeWordLaws.{section_word-append}
 use Rattle.fr_block.specs.Blocks.{AreNames}

@@ -1,3 +1,4 @@
+mod OutputLaws
 mod ReductionLaws
 mod BlockLaws
 mod WordLaws

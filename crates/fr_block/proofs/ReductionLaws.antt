@@ -1,13 +1,13 @@
 -- Free reduction of a product at whose end more members come, and the names of reduced products and of sections.
-use Rattle.std.proofs.Common.{ℕ, zero, suc, ◌≡◌, ◌<◌, ◌-◌, inl, inr, Bool, true, false, not, eqb, List, [], ◌∷◌, ◌++◌, length, get_or, slice_get, Option, Some, None, IsSome, take, drop, append_assoc, subst, ◌+◌, refl, sym, ◌∙◌, ap, arith}
+use Rattle.std.proofs.Common.{ℕ, zero, suc, ◌≡◌, ◌<◌, ◌-◌, inl, inr, Bool, true, false, List, [], ◌∷◌, ◌++◌, length, get_or, slice_get, Option, Some, None, IsSome, take, drop, append_assoc, subst, ◌+◌, refl, sym, ◌∙◌, ap, arith}
 use Rattle.std.specs.List.{AllByRecursion}
 use Rattle.std.proofs.lemmas.List.{append-nil, get_or_past, map-append, length-map, get_or-map, take_more, drop_more, drop_all, get_or_default}
 use Rattle.std.specs.Prelude.{option_to_list}
 use Rattle.std.proofs.lemmas.List.Elements.{All-get_or, All-from_recursion, recursion_from_All}
-use Rattle.std.proofs.lemmas.Bool.{cases_Bool, cases_lt, and_parts, eqb-true}
+use Rattle.std.proofs.lemmas.Bool.{cases_Bool, cases_lt}
 use Rattle.fr_model.specs.Permutations.{preimage}
 use Rattle.fr_model.specs.Systems.{Factor, System, IsWreath, IsSystem, wreath_at, section_at, inverse_factor, inverse_product, factor_output, factor_section, product_output, product_section}
-use Rattle.fr_model.specs.FreeWords.{differ, cancel, cons_reduced, reduced, IsReduced}
+use Rattle.fr_model.specs.FreeWords.{cancel, cons_reduced, reduced, IsReduced}
 use Rattle.fr_block.specs.Blocks.{AreNames, ends_against, factor_of, product_of}
 use Rattle.fr_block.specs.declared.block.Factor.{Factor as Member}
 use Rattle.fr_model.proofs.SystemLaws.{product_output-append, product_section-append}

@@ -9,13 +9,30 @@ ghost use Rattle.fr_model.specs.FreeWords.{cancel};
 ghost use Rattle.fr_block.specs.Blocks.{factor_of, product_of, system_of, IsBlock, IsRecursion, AreNames};
 
 use fr_alphabet::{Alphabet, Perm};
+use std::hash::{Hash, Hasher};
 use std::marker::Model;
 
 /// A name of a block, given by its place from 0, or the inverse of the name.
-#[derive(Clone, Copy, Debug, PartialEq, Eq, Hash)]
+#[derive(Clone, Copy, Debug, PartialEq, Eq)]
 pub struct Factor {
     pub name: u16,
     pub inverse: bool,
+}
+
+// One number is hashed, since words of many members are.
+impl Hash for Factor {
+    ghost use Rattle.std.specs.Prelude.{◌+◌, ◌*◌, if◌then◌else◌};
+    ghost use Rattle.std.specs.Hash as fed;
+    ghost use Rattle.std.specs.Cmp.Rules.{hashing};
+    ghost use Rattle.std.proofs.Common.{rules};
+
+    ghost hash_input = { λ f. fed.u32 (2 * f.name + (if f.inverse then 1 else 0)) };
+
+    ghost respects_eq = { Prim.search (hashing, rules) };
+
+    fn hash<H: Hasher>(&self, state: &mut H) {
+        state.write_u32(2 * self.name as u32 + self.inverse as u32);
+    }
 }
 
 impl Factor {

@@ -5,9 +5,9 @@ ghost use Rattle.fr_block.specs.Closures.{AreClosuresPassed, AreWords, IsRowMade
 ghost use Rattle.fr_block.specs.Elements.{StandsForNames};
 
 use crate::block::Block;
-use crate::products::{perm_of, section};
+use crate::products::section;
 use crate::words::Words;
-use fr_alphabet::NoMemory;
+use fr_alphabet::{NoMemory, Perm};
 use fr_machine::{Machine, Row};
 use std::alloc::Global;
 
@@ -48,16 +48,17 @@ fn row_of(
     requires words { AreWords block.now.system words.old }
     ensures { IfOk result (λ o. MatchOption o (IsRowPassed block.now.alphabet block.now.system words.old (slice_index_or words.old number [])) (λ r. IsRowMade block.now.alphabet block.now.system words.old words.new (slice_index_or words.old number []) r)) }
 {
+    let a = block.alphabet();
     let mut next = [0; 8];
-    for x in 0..block.alphabet().letters() {
-        let word = section(alloc, block, words.word(number), x + 1)?;
-        match words.number(word)? {
+    let mut images = [0; 8];
+    for x in 0..a.letters() {
+        let found = section(alloc, block, words.word(number), x + 1)?;
+        images[x as usize] = found.image;
+        match words.number(found.word)? {
             Some(target) => next[x as usize] = target,
             None => return Ok(None),
         }
     }
-    Ok(Some(Row {
-        perm: perm_of(block, words.word(number)),
-        next,
-    }))
+    let perm = Perm::of_images(a, &images[..a.letters() as usize]).unwrap();
+    Ok(Some(Row { perm, next }))
 }

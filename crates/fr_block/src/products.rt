@@ -2,26 +2,19 @@
 
 ghost use Rattle.std.specs.Prelude.{◌≡◌, ◌<◌, ◌++◌, ◌∷◌, [], ℕ, IfOk, OnOk, length};
 ghost use Rattle.fr_model.specs.Words.{IsLetter};
-ghost use Rattle.fr_model.specs.Permutations.{IsPermutation, image};
 ghost use Rattle.fr_model.specs.Systems.{inverse_product, factor_output, factor_section, product_output, product_section};
 ghost use Rattle.fr_model.specs.FreeWords.{reduced, IsReduced};
 ghost use Rattle.fr_block.specs.Blocks.{factor_of, product_of, ends_against, AreNames};
 
 use crate::block::{Block, Factor};
-use fr_alphabet::{NoMemory, Perm};
+use fr_alphabet::NoMemory;
 use std::alloc::Global;
 
-/// The permutation of a product: that of its first member, then that of the second, and so on.
-pub fn perm_of(block: &Block, product: &[Factor]) -> Perm
-    requires { AreNames block.now.system (product_of product.now) }
-    ensures permutes { IsPermutation block.now.alphabet result }
-    ensures value { (x : ℕ) → image result x ≡ product_output block.now.system (product_of product.now) x }
-{
-    let mut perm = Perm::identity(block.alphabet());
-    for factor in product {
-        perm = perm.then(&block.perm(*factor));
-    }
-    perm
+/// The section of a product at a letter, and the letter that the product puts out for it.
+#[derive(Drop)]
+pub struct LetterSection {
+    pub word: Vec<Factor>,
+    pub image: u8,
 }
 
 /// The section of a product at a letter, freely reduced: the sections of its members, each at the letter to which the
@@ -32,10 +25,11 @@ pub fn section(
     block: &Block,
     product: &[Factor],
     x: u8,
-) -> Result<Vec<Factor>, NoMemory>
+) -> Result<LetterSection, NoMemory>
     requires known { AreNames block.now.system (product_of product.now) }
     requires letter { IsLetter block.now.alphabet x }
-    ensures { IfOk result (λ w. product_of w.items ≡ reduced (product_section block.now.system (product_of product.now) x)) }
+    ensures word { IfOk result (λ w. product_of w.word.items ≡ reduced (product_section block.now.system (product_of product.now) x)) }
+    ensures image { IfOk result (λ w. w.image ≡ product_output block.now.system (product_of product.now) x) }
 {
     let mut word = Vec::new(alloc);
     let mut letter = x;
@@ -44,7 +38,10 @@ pub fn section(
         append_section(&mut word, block, *factor, letter, image)?;
         letter = image;
     }
-    Ok(word)
+    Ok(LetterSection {
+        word,
+        image: letter,
+    })
 }
 
 // Appends the section of a name or of an inverse at a letter, whose image is given, to a reduced product, and reduces.
