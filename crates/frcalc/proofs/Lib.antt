@@ -1,3 +1,4 @@
 pub mod ItemLaws
-pub mod WalkLaws
+pub mod FeedingLaws
+pub mod AnsweringLaws
 pub mod RunLaws

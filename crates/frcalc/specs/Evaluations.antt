@@ -4,13 +4,7 @@ use Rattle.fr_script.specs.declared.script.Script.{Script}
 use Rattle.fr_plain.specs.Outcomes.{Outcome}
 use Rattle.fr_plain.specs.Plain.{AreOutcomes, text_of, charge_of, has_fault}
 use Rattle.fr_plain.specs.Beginnings.{ReachesCharge}
-use Rattle.fr_eval.specs.declared.ends.Stop.{Stop}
-use Rattle.fr_eval.specs.declared.ends.Stop.TheVariants.{Full}
-use Rattle.fr_eval.specs.declared.ends.Stop.TheVariants as stop
 use Rattle.frcalc.specs.declared.evaluation.Evaluation.{Evaluation}
-use Rattle.frcalc.specs.declared.evaluation.EvaluationFault.{EvaluationFault}
-use Rattle.frcalc.specs.declared.evaluation.EvaluationFault.TheVariants.{StatesPassed}
-use Rattle.frcalc.specs.declared.evaluation.EvaluationFault.TheVariants as fault
 
 -- the texts of the outcomes of the items, in order, and whether one has a fault; their charge is at most the limit
 pub record IsEvaluation (script : Script) (limit : ℕ) (e : Evaluation) : Type 0 where
@@ -19,11 +13,6 @@ pub record IsEvaluation (script : Script) (limit : ℕ) (e : Evaluation) : Type 
   pub text_is : e.text.items ≡ text_of outcomes
   pub refused_is : e.refused ≡ has_fault outcomes
   pub within : charge_of outcomes ≤ limit
-
--- a full store means that the charge is more than the limit
-abbrev pub of_stop : Stop → EvaluationFault
-of_stop (Full claimed asked) = StatesPassed
-of_stop stop.NoMemory = fault.NoMemory
 
 -- first steps are charged more than the limit
 pub record IsDearer (script : Script) (limit : ℕ) : Type 0 where

@@ -1,10 +1,10 @@
 use Rattle.std.proofs.Common.{◌≡◌}
 use Rattle.fr_expr.specs.Tables.{names_in}
-use Rattle.frcalc.proofs.WalkLaws.{Walks}
-use Rattle.frcalc.proofs.evaluation.evaluate.Given as goal
+use Rattle.frcalc.proofs.FeedingLaws.{Feeding}
+use Rattle.frcalc.proofs.feeding.feed_all.Given as goal
 
 abbrev pub invariant-loop-item : goal.invariant-loop-item
 invariant-loop-item l = record {
   items : l.item-items ≡ l.script.items;
-  walks : Walks l.script l.limit l.item-index l.store (names_in l.env) l.text.items l.refused l.charge;
+  feeding : Feeding l.script l.limit l.item-index l.session.store (names_in l.session.env) l.replies.items l.charge;
 }
