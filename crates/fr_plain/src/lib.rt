@@ -1,4 +1,4 @@
-//! The plain evaluation of scripts: name_steps, and the laws that they determine what is written.
+//! The plain evaluation of scripts: its definitions, and the laws that they determine what is written.
 #![tactic(auto)]
 
 mod laws;
