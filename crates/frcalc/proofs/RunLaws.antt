@@ -10,14 +10,18 @@ use Rattle.fr_script.specs.Scripts.{lines_of, IsScript}
 use Rattle.fr_plain.specs.Plain.{IsPlain, charge_of}
 use Rattle.fr_plain.specs.Beginnings.{PassesCharge}
 use Rattle.fr_plain.proofs.PlainLaws.{passes_whole}
+use Rattle.fr_options.specs.declared.options.Options.{Options}
 use Rattle.frcalc.specs.declared.program.Ending.{Ending}
 use Rattle.frcalc.specs.declared.program.Ending.TheVariants.{Fine, Refused, Usage, ReadFailed, WriteFailed, TooLong, StatesPassed, NoMemory}
 use Rattle.frcalc.specs.declared.evaluation.Evaluation.{Evaluation}
 use Rattle.frcalc.specs.Evaluations.{IsEvaluation}
 use Rattle.frcalc.specs.Program.{Sides, IsRead, IsWhole, IsCut, IsTooLong, IsDear, Causes, status_of, Completes, Passes}
 
-some_same : (m n : ℕ) → Some m ≡ Some n → m ≡ n
-some_same m n e = ap (λ o. unwrap_or o 0) e
+some_same : (o p : Options) → Some o ≡ Some p → o ≡ p
+some_same o p e = ap (λ x. unwrap_or x o) e
+
+states_same : (options : Option Options) (o p : Options) → options ≡ Some o → options ≡ Some p → o.states ≡ p.states
+states_same options o p a b = ap (λ (x : Options). x.states) (some_same o p (sym a ∙ b))
 
 -- all that was told was taken
 took_whole : (most : ℕ) (old new : Option (List ℕ)) (script bytes : List ℕ) → old ≡ Some script → TookAll most old new bytes → bytes ≡ script
@@ -49,35 +53,36 @@ dear_is : (limit n : ℕ) (old new : Sides) (script : List ℕ) → old.left ≡
 dear_is limit n old new script told same d =
     subst (λ (m : ℕ). PassesCharge script m) same (subst (λ (s : List ℕ). PassesCharge s limit) (took_whole 1048576 old.left new.left script d.script told d.read.took) d.passes)
 
-pub completes : (ending : Ending) (limit : Option ℕ) (old new : Sides) → Causes ending limit old new → Completes (status_of ending) limit old new
-completes Fine limit old new c script n l told short few cheap read write =
-    inl (record { text = c.2.text; refused = false; charge = c.2.charge; plain = whole_is c.0 false old new script told c.2; status_is = refl; gave = c.2.gave })
-completes Refused limit old new c script n l told short few cheap read write =
-    inl (record { text = c.2.text; refused = true; charge = c.2.charge; plain = whole_is c.0 true old new script told c.2; status_is = refl; gave = c.2.gave })
-completes Usage limit old new c script n l told short few cheap read write = absurd (none-some n (sym c.0 ∙ l))
-completes ReadFailed limit old new c script n l told short few cheap read write = absurd (read c.1.rose)
-completes WriteFailed limit old new c script n l told short few cheap read write = absurd (write c.2.rose)
-completes TooLong limit old new c script n l told short few cheap read write = absurd (not_long old new script told short few c.1)
-completes (StatesPassed m) limit old new c script n l told short few cheap read write = absurd (cheap (dear_is m n old new script told (some_same m n (sym c.0 ∙ l)) c.1))
-completes NoMemory limit old new c script n l told short few cheap read write = inr refl
+pub completes : (ending : Ending) (options : Option Options) (old new : Sides) → Causes ending options old new → Completes (status_of ending) options old new
+completes Fine options old new c script o is told short few cheap read write =
+    inl (record { text = c.2.text; refused = false; charge = c.2.charge; plain = whole_is c.0.states false old new script told c.2; status_is = refl; gave = c.2.gave })
+completes Refused options old new c script o is told short few cheap read write =
+    inl (record { text = c.2.text; refused = true; charge = c.2.charge; plain = whole_is c.0.states true old new script told c.2; status_is = refl; gave = c.2.gave })
+completes Usage options old new c script o is told short few cheap read write = absurd (none-some o (sym c.0 ∙ is))
+completes ReadFailed options old new c script o is told short few cheap read write = absurd (read c.1.rose)
+completes WriteFailed options old new c script o is told short few cheap read write = absurd (write c.2.rose)
+completes TooLong options old new c script o is told short few cheap read write = absurd (not_long old new script told short few c.1)
+completes (StatesPassed m) options old new c script o is told short few cheap read write =
+    absurd (cheap (dear_is m o.states old new script told (c.2 ∙ states_same options c.0 o c.1 is) c.3))
+completes NoMemory options old new c script o is told short few cheap read write = inr refl
 
 -- a whole text is charged at most the limit
 not_whole : (m n : ℕ) (refused : Bool) (script text : List ℕ) (charge : ℕ) → m ≡ n → PassesCharge script n → IsPlain script text refused charge → charge ≤ m → ⊥
 not_whole m n refused script text charge same dear plain within = absurd (omega (arith, same, within, passes_whole script text refused charge n dear plain))
 
-pub passes : (ending : Ending) (limit : Option ℕ) (old new : Sides) → Causes ending limit old new → Passes (status_of ending) limit old new
-passes Fine limit old new c script n l told short few dear read =
-    absurd (not_whole c.0 n false script c.2.text c.2.charge (some_same c.0 n (sym c.1 ∙ l)) dear (whole_is c.0 false old new script told c.2) c.2.within)
-passes Refused limit old new c script n l told short few dear read =
-    absurd (not_whole c.0 n true script c.2.text c.2.charge (some_same c.0 n (sym c.1 ∙ l)) dear (whole_is c.0 true old new script told c.2) c.2.within)
-passes Usage limit old new c script n l told short few dear read = absurd (none-some n (sym c.0 ∙ l))
-passes ReadFailed limit old new c script n l told short few dear read = absurd (read c.1.rose)
-passes WriteFailed limit old new c script n l told short few dear read =
+pub passes : (ending : Ending) (options : Option Options) (old new : Sides) → Causes ending options old new → Passes (status_of ending) options old new
+passes Fine options old new c script o is told short few dear read =
+    absurd (not_whole c.0.states o.states false script c.2.text c.2.charge (states_same options c.0 o c.1 is) dear (whole_is c.0.states false old new script told c.2) c.2.within)
+passes Refused options old new c script o is told short few dear read =
+    absurd (not_whole c.0.states o.states true script c.2.text c.2.charge (states_same options c.0 o c.1 is) dear (whole_is c.0.states true old new script told c.2) c.2.within)
+passes Usage options old new c script o is told short few dear read = absurd (none-some o (sym c.0 ∙ is))
+passes ReadFailed options old new c script o is told short few dear read = absurd (read c.1.rose)
+passes WriteFailed options old new c script o is told short few dear read =
     let plain = subst (λ (s : List ℕ). IsPlain s c.2.text c.2.refused c.2.charge) (took_whole 1048576 old.left new.left script c.2.script told c.2.read.took) c.2.plain in
-    absurd (not_whole c.0 n c.2.refused script c.2.text c.2.charge (some_same c.0 n (sym c.1 ∙ l)) dear plain c.2.within)
-passes TooLong limit old new c script n l told short few dear read = absurd (not_long old new script told short few c.1)
-passes (StatesPassed m) limit old new c script n l told short few dear read = inl refl
-passes NoMemory limit old new c script n l told short few dear read = inr refl
+    absurd (not_whole c.0.states o.states c.2.refused script c.2.text c.2.charge (states_same options c.0 o c.1 is) dear plain c.2.within)
+passes TooLong options old new c script o is told short few dear read = absurd (not_long old new script told short few c.1)
+passes (StatesPassed m) options old new c script o is told short few dear read = inl refl
+passes NoMemory options old new c script o is told short few dear read = inr refl
 
 -- ---- what the evaluation of a script says of its bytes
 is_plain : (bytes : List ℕ) (script : Script) (limit : ℕ) (e : Evaluation) → IsScript bytes script → (v : IsEvaluation script limit e) → IsPlain bytes e.text.items e.refused (charge_of v.outcomes)

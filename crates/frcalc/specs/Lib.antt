@@ -3,4 +3,3 @@ pub mod Faults
 pub mod Items
 pub mod Feeding
 pub mod Program
-pub mod Words

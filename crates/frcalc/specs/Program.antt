@@ -7,6 +7,7 @@ use Rattle.fr_io.specs.Taken.{TookAll, TookFew, TookSome, TookTooMany, Gave, Gav
 use Rattle.fr_script.specs.Scripts.{lines_of}
 use Rattle.fr_plain.specs.Plain.{IsPlain}
 use Rattle.fr_plain.specs.Beginnings.{PassesCharge}
+use Rattle.fr_options.specs.declared.options.Options.{Options}
 use Rattle.frcalc.specs.declared.program.Ending.{Ending}
 use Rattle.frcalc.specs.declared.program.Ending.TheVariants.{Fine, Refused, Usage, ReadFailed, WriteFailed, TooLong, StatesPassed, NoMemory}
 
@@ -82,16 +83,16 @@ pub record IsGivenUp (old new : Sides) : Type 0 where
   pub took : TookSome old.left new.left
   pub unwritten : IsUnwritten old new
 
--- the cause of each ending, where the words give this limit of the charge or are not accepted
-abbrev pub Causes : Ending → Option ℕ → Sides → Sides → Type 0
-Causes Fine limit old new = (n : ℕ) × (limit ≡ Some n) × IsWhole n false old new
-Causes Refused limit old new = (n : ℕ) × (limit ≡ Some n) × IsWhole n true old new
-Causes Usage limit old new = (limit ≡ None) × (new ≡ old)
-Causes ReadFailed limit old new = IsSome limit × IsUnread old new
-Causes WriteFailed limit old new = (n : ℕ) × (limit ≡ Some n) × IsCut n old new
-Causes TooLong limit old new = IsSome limit × IsTooLong old new
-Causes (StatesPassed n) limit old new = (limit ≡ Some n) × IsDear n old new
-Causes NoMemory limit old new = IsGivenUp old new
+-- the cause of each ending, where the words give these options or are not accepted
+abbrev pub Causes : Ending → Option Options → Sides → Sides → Type 0
+Causes Fine options old new = (o : Options) × (options ≡ Some o) × IsWhole o.states false old new
+Causes Refused options old new = (o : Options) × (options ≡ Some o) × IsWhole o.states true old new
+Causes Usage options old new = (options ≡ None) × (new ≡ old)
+Causes ReadFailed options old new = IsSome options × IsUnread old new
+Causes WriteFailed options old new = (o : Options) × (options ≡ Some o) × IsCut o.states old new
+Causes TooLong options old new = IsSome options × IsTooLong old new
+Causes (StatesPassed n) options old new = (o : Options) × (options ≡ Some o) × (n ≡ o.states) × IsDear n old new
+Causes NoMemory options old new = IsGivenUp old new
 
 abbrev pub status_of : Ending → ℕ
 status_of Fine = 0
@@ -107,7 +108,7 @@ status_of NoMemory = 7
 abbrev pub front_of : Ending → List ℕ
 front_of Fine = []
 front_of Refused = []
-front_of Usage = codes "frcalc: usage: frcalc [--states N]\n"
+front_of Usage = codes "frcalc: usage: frcalc [--workers W] [--grain K] [--states N]\n"
 front_of ReadFailed = codes "frcalc: read failed\n"
 front_of WriteFailed = codes "frcalc: write failed\n"
 front_of TooLong = codes "frcalc: script too long\n"
@@ -117,7 +118,7 @@ front_of NoMemory = codes "frcalc: out of memory\n"
 abbrev pub message_of : Ending → List ℕ
 message_of Fine = []
 message_of Refused = []
-message_of Usage = codes "frcalc: usage: frcalc [--states N]\n"
+message_of Usage = codes "frcalc: usage: frcalc [--workers W] [--grain K] [--states N]\n"
 message_of ReadFailed = codes "frcalc: read failed\n"
 message_of WriteFailed = codes "frcalc: write failed\n"
 message_of TooLong = codes "frcalc: script too long\n"
@@ -129,10 +130,10 @@ abbrev pub Says : List ℕ → Option (List ℕ) → Option (List ℕ) → ℕ �
 Says message old new before now = Gave old new message ⊎ (GavePart old new message × Rose before now)
 
 -- the status has its cause, and `err` grew by its message, or by a part of it where a fault was counted
-pub record Ends (status : ℕ) (limit : Option ℕ) (old new : Sides) (told told_after : Option (List ℕ)) (faults faults_after : ℕ) : Type 0 where
+pub record Ends (status : ℕ) (options : Option Options) (old new : Sides) (told told_after : Option (List ℕ)) (faults faults_after : ℕ) : Type 0 where
   pub ending : Ending
   pub status_is : status ≡ status_of ending
-  pub cause : Causes ending limit old new
+  pub cause : Causes ending options old new
   pub says : Says (message_of ending) told told_after faults faults_after
 
 -- the status is 0 or 1, and the whole text was written
@@ -146,11 +147,11 @@ pub record IsComplete (status : ℕ) (script : List ℕ) (old new : Sides) : Typ
 
 -- accepted words, a source that tells a script that is not too long and not charged more than the limit, and no fault: the
 -- whole text, or want of memory
-abbrev pub Completes : ℕ → Option ℕ → Sides → Sides → Type 0
-Completes status limit old new = (script : List ℕ) (n : ℕ) → limit ≡ Some n → old.left ≡ Some script → length script ≤ 1048576 → length (lines_of script) ≤ 4096
-    → ¬ PassesCharge script n → ¬ Rose old.read_faults new.read_faults → ¬ Rose old.write_faults new.write_faults → IsComplete status script old new ⊎ (status ≡ 7)
+abbrev pub Completes : ℕ → Option Options → Sides → Sides → Type 0
+Completes status options old new = (script : List ℕ) (o : Options) → options ≡ Some o → old.left ≡ Some script → length script ≤ 1048576 → length (lines_of script) ≤ 4096
+    → ¬ PassesCharge script o.states → ¬ Rose old.read_faults new.read_faults → ¬ Rose old.write_faults new.write_faults → IsComplete status script old new ⊎ (status ≡ 7)
 
 -- the same with a script that is charged more: status 6, or want of memory
-abbrev pub Passes : ℕ → Option ℕ → Sides → Sides → Type 0
-Passes status limit old new = (script : List ℕ) (n : ℕ) → limit ≡ Some n → old.left ≡ Some script → length script ≤ 1048576 → length (lines_of script) ≤ 4096
-    → PassesCharge script n → ¬ Rose old.read_faults new.read_faults → (status ≡ 6) ⊎ (status ≡ 7)
+abbrev pub Passes : ℕ → Option Options → Sides → Sides → Type 0
+Passes status options old new = (script : List ℕ) (o : Options) → options ≡ Some o → old.left ≡ Some script → length script ≤ 1048576 → length (lines_of script) ≤ 4096
+    → PassesCharge script o.states → ¬ Rose old.read_faults new.read_faults → (status ≡ 6) ⊎ (status ≡ 7)

@@ -7,7 +7,6 @@ mod feeding;
 mod program;
 #[cfg(test)]
 mod tests;
-mod words;
 
 use fr_io::{StdSink, StdSource};
 use program::{Ending, close, run};

@@ -2,13 +2,13 @@
 
 ghost use Rattle.std.specs.Prelude.{◌≡◌, ◌+◌, ◌≤◌, ◌++◌, length, map};
 ghost use Rattle.arrayvec.specs.ArrayVec.{array_vec_len};
-ghost use Rattle.frcalc.specs.Words.{limit_of};
+ghost use Rattle.fr_options.specs.Options.{options_of};
 ghost use Rattle.frcalc.specs.Program.{sides_of, Causes, Completes, Passes, Ends, Says, message_of, front_of, status_of};
 
 use crate::evaluation::{EvaluationFault, evaluate};
-use crate::words::limit;
 use arrayvec::ArrayVec;
 use fr_io::{Failed, ReadStop, Sink, Source, get_all, put_all};
+use fr_options::{WordsFault, read_words};
 use fr_script::{ScriptFault, read_script};
 use itoa::Buffer;
 use std::alloc::Global;
@@ -39,9 +39,10 @@ pub enum Ending {
 
 /// Reads a script from `input`, writes its text to `out`, and says on `err` why it did not.
 ///
-/// `words` are those after the program's name: none, or `--states N` for a limit of the charge from 1 to 1,048,576. Answers
-/// the status. Where several hold, the words are refused before a read fails or a script is too long, these before the
-/// charge passes the limit, and this before a write fails.
+/// `words` are those after the program's name, as `read_words` takes them: the number of states is the limit of the charge,
+/// and the numbers of workers and of questions at a time have no effect yet. Answers the status. Where several hold, the
+/// words are refused before a read fails or a script is too long, these before the charge passes the limit, and this before a
+/// write fails.
 pub fn run<S: Source, T: Sink, E: Sink>(
     alloc: Global,
     words: &[String],
@@ -49,11 +50,11 @@ pub fn run<S: Source, T: Sink, E: Sink>(
     out: &mut T,
     err: &mut E,
 ) -> u8
-    ensures ends { Ends result (limit_of (map (λ w. w.bytes.items) words.now)) (sides_of S.left S.faults T.written T.faults input.old out.old)
+    ensures ends { Ends result (options_of (map (λ w. w.bytes.items) words.now)) (sides_of S.left S.faults T.written T.faults input.old out.old)
         (sides_of S.left S.faults T.written T.faults input.new out.new) (E.written err.old) (E.written err.new) (E.faults err.old) (E.faults err.new) }
-    ensures completes { Completes result (limit_of (map (λ w. w.bytes.items) words.now)) (sides_of S.left S.faults T.written T.faults input.old out.old)
+    ensures completes { Completes result (options_of (map (λ w. w.bytes.items) words.now)) (sides_of S.left S.faults T.written T.faults input.old out.old)
         (sides_of S.left S.faults T.written T.faults input.new out.new) }
-    ensures passes { Passes result (limit_of (map (λ w. w.bytes.items) words.now)) (sides_of S.left S.faults T.written T.faults input.old out.old)
+    ensures passes { Passes result (options_of (map (λ w. w.bytes.items) words.now)) (sides_of S.left S.faults T.written T.faults input.old out.old)
         (sides_of S.left S.faults T.written T.faults input.new out.new) }
 {
     close(work(alloc, words, input, out), err)
@@ -70,7 +71,7 @@ pub fn close<E: Sink>(ending: Ending, err: &mut E) -> u8
 }
 
 // What is said of an ending. It takes no memory, so that it can be said where there is none.
-fn message(ending: Ending) -> ArrayVec<u8, 64>
+fn message(ending: Ending) -> ArrayVec<u8, 128>
     ensures { result.items ≡ message_of ending }
 {
     let mut text = ArrayVec::new();
@@ -83,8 +84,8 @@ fn message(ending: Ending) -> ArrayVec<u8, 64>
 }
 
 // Appends bytes for which there is room.
-fn append(text: &mut ArrayVec<u8, 64>, bytes: &[u8])
-    requires { array_vec_len text.old + length bytes.now ≤ 64 }
+fn append(text: &mut ArrayVec<u8, 128>, bytes: &[u8])
+    requires { array_vec_len text.old + length bytes.now ≤ 128 }
     ensures items { text.new.items ≡ text.old.items ++ bytes.now }
     ensures len { array_vec_len text.new ≡ array_vec_len text.old + length bytes.now }
 {
@@ -94,11 +95,11 @@ fn append(text: &mut ArrayVec<u8, 64>, bytes: &[u8])
 // What is said of an ending, up to a number that is said.
 fn front(ending: Ending) -> &'static [u8]
     ensures front { result.now ≡ front_of ending }
-    ensures short { length result.now ≤ 36 }
+    ensures short { length result.now ≤ 90 }
 {
     match ending {
         Ending::Fine | Ending::Refused => b"",
-        Ending::Usage => b"frcalc: usage: frcalc [--states N]\n",
+        Ending::Usage => b"frcalc: usage: frcalc [--workers W] [--grain K] [--states N]\n",
         Ending::ReadFailed => b"frcalc: read failed\n",
         Ending::WriteFailed => b"frcalc: write failed\n",
         Ending::TooLong => b"frcalc: script too long\n",
@@ -125,11 +126,13 @@ fn status(ending: Ending) -> u8
 
 // Reads, evaluates and writes.
 fn work<S: Source, T: Sink>(alloc: Global, words: &[String], input: &mut S, out: &mut T) -> Ending
-    ensures { Causes result (limit_of (map (λ w. w.bytes.items) words.now)) (sides_of S.left S.faults T.written T.faults input.old out.old)
+    ensures { Causes result (options_of (map (λ w. w.bytes.items) words.now)) (sides_of S.left S.faults T.written T.faults input.old out.old)
         (sides_of S.left S.faults T.written T.faults input.new out.new) }
 {
-    let Some(limit) = limit(words) else {
-        return Ending::Usage;
+    let options = match read_words(alloc, words) {
+        Ok(options) => options,
+        Err(WordsFault::Usage) => return Ending::Usage,
+        Err(WordsFault::NoMemory) => return Ending::NoMemory,
     };
     let bytes = match get_all(alloc, input, SCRIPT_LIMIT) {
         Ok(bytes) => bytes,
@@ -142,9 +145,9 @@ fn work<S: Source, T: Sink>(alloc: Global, words: &[String], input: &mut S, out:
         Err(ScriptFault::LinesPassed) => return Ending::TooLong,
         Err(ScriptFault::NoMemory) => return Ending::NoMemory,
     };
-    let evaluation = match evaluate(alloc, &script, limit) {
+    let evaluation = match evaluate(alloc, &script, options.states) {
         Ok(evaluation) => evaluation,
-        Err(EvaluationFault::StatesPassed) => return Ending::StatesPassed(limit),
+        Err(EvaluationFault::StatesPassed) => return Ending::StatesPassed(options.states),
         Err(EvaluationFault::NoMemory) => return Ending::NoMemory,
     };
     match put_all(out, &evaluation.text) {

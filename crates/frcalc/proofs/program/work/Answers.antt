@@ -1,4 +1,4 @@
-use Rattle.std.proofs.Common.{true, false, List, ℕ, sym, subst}
+use Rattle.std.proofs.Common.{true, false, List, ℕ, subst}
 use Rattle.fr_io.specs.Taken.{Gave, GavePart}
 use Rattle.fr_script.specs.Scripts.{IsScript}
 use Rattle.frcalc.specs.Program.{sides_of}
@@ -12,9 +12,9 @@ returns-in-Err g c =
     let script = c.in-Ok-read_script.script in
     let reads = subst (λ (l : List ℕ). IsScript l script) c.deref.ensures.value c.in-Ok-read_script.ensures.ok in
     let gave = subst (λ (l : List ℕ). GavePart (g.T.Sink.written c.args.out.now) (g.T.Sink.written c.put_all.new.out) l) c.deref-2.ensures.value c.in-Err.ensures.part in (
-      c.in-Some.limit,
-      sym c.in-Some.ensures.limit,
-      cut c.in-Some.limit old new c.in-Ok.bytes.items script c.in-Ok-evaluate.evaluation c.in-Ok.ensures.all reads c.in-Ok-evaluate.ensures.ok gave c.in-Err.ensures.cause.failed,
+      c.in-Ok.options,
+      c.in-Ok.ensures.options,
+      cut c.in-Ok.options.states old new c.in-Ok-get_all.bytes.items script c.in-Ok-evaluate.evaluation c.in-Ok-get_all.ensures.all reads c.in-Ok-evaluate.ensures.ok gave c.in-Err.ensures.cause.failed,
     )
 
 pub returns-in-Ok-put_all : goal.returns-in-Ok-put_all
@@ -24,9 +24,9 @@ returns-in-Ok-put_all g c =
     let script = c.in-Ok-read_script.script in
     let reads = subst (λ (l : List ℕ). IsScript l script) c.deref.ensures.value c.in-Ok-read_script.ensures.ok in
     let gave = subst (λ (l : List ℕ). Gave (g.T.Sink.written c.args.out.now) (g.T.Sink.written c.put_all.new.out) l) c.deref-2.ensures.value c.in-Ok-put_all.ensures.all in (
-      c.in-Some.limit,
-      sym c.in-Some.ensures.limit,
-      whole c.in-Some.limit true old new c.in-Ok.bytes.items script c.in-Ok-evaluate.evaluation c.in-Ok.ensures.all reads c.in-Ok-evaluate.ensures.ok c.if-evaluation.true gave,
+      c.in-Ok.options,
+      c.in-Ok.ensures.options,
+      whole c.in-Ok.options.states true old new c.in-Ok-get_all.bytes.items script c.in-Ok-evaluate.evaluation c.in-Ok-get_all.ensures.all reads c.in-Ok-evaluate.ensures.ok c.if-evaluation.true gave,
     )
 
 pub returns : goal.returns
@@ -36,7 +36,7 @@ returns g c =
     let script = c.in-Ok-read_script.script in
     let reads = subst (λ (l : List ℕ). IsScript l script) c.deref.ensures.value c.in-Ok-read_script.ensures.ok in
     let gave = subst (λ (l : List ℕ). Gave (g.T.Sink.written c.args.out.now) (g.T.Sink.written c.put_all.new.out) l) c.deref-2.ensures.value c.in-Ok-2.ensures.all in (
-      c.in-Some.limit,
-      sym c.in-Some.ensures.limit,
-      whole c.in-Some.limit false old new c.in-Ok.bytes.items script c.in-Ok-evaluate.evaluation c.in-Ok.ensures.all reads c.in-Ok-evaluate.ensures.ok c.if-evaluation.false gave,
+      c.in-Ok.options,
+      c.in-Ok.ensures.options,
+      whole c.in-Ok.options.states false old new c.in-Ok-get_all.bytes.items script c.in-Ok-evaluate.evaluation c.in-Ok-get_all.ensures.all reads c.in-Ok-evaluate.ensures.ok c.if-evaluation.false gave,
     )

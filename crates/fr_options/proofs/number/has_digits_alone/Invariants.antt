@@ -1,6 +1,6 @@
 use Rattle.std.proofs.Common.{◌≡◌, drop}
 use Rattle.std.specs.Str.{all_ascii_digits}
-use Rattle.frcalc.proofs.words.has_digits_alone.Given as goal
+use Rattle.fr_options.proofs.number.has_digits_alone.Given as goal
 
 abbrev pub invariant-loop-c : goal.invariant-loop-c
 invariant-loop-c l = all_ascii_digits l.text ≡ all_ascii_digits (drop l.c-index l.text)

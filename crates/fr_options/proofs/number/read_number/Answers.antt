@@ -5,8 +5,8 @@ use Rattle.std.specs.Str.Parse.{digits_value, ParsesUnsigned}
 use Rattle.std.proofs.lemmas.Bool.{lt-leb, leb-true, cases_order, true≢false}
 use Rattle.std.proofs.lemmas.Option.{none-some}
 use Rattle.std.proofs.lemmas.Str.Parse.{IsNumeralModel, numerals_by_value, tells_all_ascii_digits, parse_digits}
-use Rattle.frcalc.specs.Words.{is_number, number_between}
-use Rattle.frcalc.proofs.words.read_number.Goals as goal
+use Rattle.fr_options.specs.Numbers.{is_number, number_between}
+use Rattle.fr_options.proofs.number.read_number.Goals as goal
 
 model : IsNumeralModel (λ ds. all_ascii_digits ds ≡ true) (digits_value 10)
 model = numerals_by_value (λ ds. all_ascii_digits ds ≡ true) tells_all_ascii_digits
