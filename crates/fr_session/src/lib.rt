@@ -4,8 +4,6 @@
 mod fault;
 mod session;
 mod statement;
-#[cfg(test)]
-mod tests;
 
 pub use fault::SessionFault;
 pub use session::{Reply, Session};
