@@ -21,7 +21,8 @@ use Rattle.fr_script.specs.Inner.{ReadsInner}
 use Rattle.fr_script.specs.Items.{line_kind, is_blank, is_group, is_end, alphabet_after, without_end, listed, begin, outside_of, or_fault, grown, ended_body, ended, ReadsOutside, ReadsInside}
 use Rattle.fr_script.specs.Blocks.{before_end, from_end, said, inner_fault, group_fault, end_fault, first_of, block_body, ReadsBlock, EndsBlock}
 use Rattle.fr_script.specs.Pushes.{Advances, AdvancesFrom, RunsFrom, after_outside, after_inside, end_of, begun}
-use Rattle.fr_script.specs.Scripts.{lines_of, body_of, HasItems, alphabet_of, IsScript, IsReadByLines}
+use Rattle.fr_script.specs.Keeping.{body_of}
+use Rattle.fr_script.specs.Scripts.{lines_of, HasItems, alphabet_of, IsScript, IsReadByLines}
 use Rattle.fr_script.proofs.Choices.{one_bool, some_bool, both}
 use Rattle.fr_script.proofs.OutcomeLaws.{one_line, some_line, one_inner, some_inner}
 use Rattle.fr_script.proofs.BlockLaws.{one_script}
@@ -236,7 +237,7 @@ outside-group n o.Group h = refl
 outside-group n (o.Says statement) h = absurd h
 outside-group n (o.Faulty kind) h = refl
 
-outside-other : (n : ℕ) (outcome : LineOutcome) → Matches false outcome → outside_of n false outcome ≡ out.Is (record { line = n; body = body_of n outcome })
+pub outside-other : (n : ℕ) (outcome : LineOutcome) → Matches false outcome → outside_of n false outcome ≡ out.Is (record { line = n; body = body_of n outcome })
 outside-other n o.Group h = absurd h
 outside-other n (o.Says statement) h = refl
 outside-other n (o.Faulty kind) h = refl

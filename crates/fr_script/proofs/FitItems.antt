@@ -13,7 +13,8 @@ use Rattle.fr_script.specs.declared.script.Script.{Script}
 use Rattle.fr_script.specs.Reading.{ReadsLine}
 use Rattle.fr_script.specs.Items.{line_kind, is_blank, is_group, is_end, alphabet_after}
 use Rattle.fr_script.specs.Blocks.{before_end, from_end, said, inner_fault, first_of, group_fault, end_fault, block_body, ReadsBlock, EndsBlock}
-use Rattle.fr_script.specs.Scripts.{lines_of, body_of, HasItems, alphabet_of, IsScript}
+use Rattle.fr_script.specs.Keeping.{body_of}
+use Rattle.fr_script.specs.Scripts.{lines_of, HasItems, alphabet_of, IsScript}
 use Rattle.fr_script.specs.Fits.{FitsFault, FitsBody, FitsItems, FitsScript}
 use Rattle.fr_script.proofs.BlockLaws.{SaysMore, BlockFirst, LineFirst}
 use Rattle.fr_script.proofs.FitLaws.{InnerFits, inner-fits, OutcomeFits, outcome-fits, body-fits, later-alphabet}

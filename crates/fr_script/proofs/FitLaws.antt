@@ -27,7 +27,7 @@ use Rattle.fr_script.specs.Cycles.{cycles_letters, has_repeat}
 use Rattle.fr_script.specs.Reading as r
 use Rattle.fr_script.specs.Inner as inside
 use Rattle.fr_script.specs.Items.{alphabet_after}
-use Rattle.fr_script.specs.Scripts.{body_of}
+use Rattle.fr_script.specs.Keeping.{body_of}
 use Rattle.fr_script.specs.Fits.{IsOfReading, FitsBody}
 use Rattle.fr_script.proofs.Choices.{any_bool, any_option}
 use Rattle.fr_script.proofs.CycleLaws.{IsPermutation-cycles}
@@ -174,7 +174,7 @@ body-fits d n high (o.Says (st.NucleusOf es)) h g = (g.0 n high, g.1)
 body-fits d n high (o.Faulty kind) h g = g
 
 -- no accepted `alphabet` line
-abbrev NoAlphabet : LineOutcome → Type 0
+abbrev pub NoAlphabet : LineOutcome → Type 0
 NoAlphabet (o.Says (st.Alphabet a)) = ⊥
 NoAlphabet _ = Unit {0}
 
@@ -220,7 +220,8 @@ no-alphabet-line d line outcome =
     (fault f.UnknownStatement)))
     (λ place. fault (f.BadByte place))
 
-alphabet-stays : (d n : ℕ) (outcome : LineOutcome) → NoAlphabet outcome → alphabet_after d (body_of n outcome) ≡ d
+-- and the alphabet stays
+pub alphabet-stays : (d n : ℕ) (outcome : LineOutcome) → NoAlphabet outcome → alphabet_after d (body_of n outcome) ≡ d
 alphabet-stays d n o.Group h = refl
 alphabet-stays d n (o.Says (st.Alphabet a)) h = absurd h
 alphabet-stays d n (o.Says (st.Group recursions)) h = refl

@@ -19,7 +19,7 @@ use Rattle.fr_script.specs.Reading.{ReadsLine}
 use Rattle.fr_script.specs.Inner.{ReadsInner}
 use Rattle.fr_script.specs.Items.{line_kind, is_blank, is_group, is_end, begin, outside_of, grown, ended_body, ended, ReadsOutside, or_fault}
 use Rattle.fr_script.specs.Pushes.{Advances, AdvancesFrom, after_outside, after_inside}
-use Rattle.fr_script.specs.Scripts.{body_of}
+use Rattle.fr_script.specs.Keeping.{body_of}
 use Rattle.fr_script.specs.Fits.{IsOfReading, FitsFault, FitsBody, FitsBlock, FitsState, GivesFitting}
 use Rattle.fr_script.proofs.FitLaws.{InnerFits, inner-fits, outcome-fits, body-fits}
 

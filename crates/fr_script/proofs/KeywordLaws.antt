@@ -40,11 +40,11 @@ end_by : (b : Bool) → is_group (if b then kind.End else kind.Other) ≡ false
 end_by true = refl
 end_by false = refl
 
-group-first : (token : Lexeme) (rest : List Lexeme) → is_group (kind_of (token ∷ rest)) ≡ is_word (codes "group") token
+pub group-first : (token : Lexeme) (rest : List Lexeme) → is_group (kind_of (token ∷ rest)) ≡ is_word (codes "group") token
 group-first token [] = kind_by (is_word (codes "group") token) (if is_word (codes "end") token then kind.End else kind.Other) (end_by (is_word (codes "end") token))
 group-first token (other ∷ rest) = kind_by (is_word (codes "group") token) kind.Other refl
 
-abbrev first_word : LineTree → Keyword
+abbrev pub first_word : LineTree → Keyword
 first_word (AlphabetLine text) = k.Alphabet
 first_word GroupLine = k.Group
 first_word (LetLine name expr) = k.Let
@@ -58,7 +58,7 @@ first_word (RayLine expr ray) = k.Ray
 first_word (OrderLine expr text) = k.Order
 first_word (NucleusLine exprs) = k.Nucleus
 
-first-token : (line : LineTree) → (rest : List Lexeme) × (line_tokens line ≡ word (first_word line) ∷ rest)
+pub first-token : (line : LineTree) → (rest : List Lexeme) × (line_tokens line ≡ word (first_word line) ∷ rest)
 first-token (AlphabetLine text) = (_, refl)
 first-token GroupLine = (_, refl)
 first-token (LetLine name expr) = (_, refl)

@@ -3,6 +3,8 @@ pub mod ReadingLaws
 pub mod InnerLaws
 pub mod KindLaws
 pub mod OutcomeLaws
+pub mod WordLaws
+pub mod KeptLaws
 pub mod CycleLaws
 pub mod CycleImages
 pub mod LetterLaws
@@ -10,6 +12,7 @@ pub mod BlockLaws
 pub mod KeywordLaws
 pub mod ByLines
 pub mod LineCuts
+pub mod LineCounts
 pub mod ScriptLaws
 pub mod FitLaws
 pub mod FitItems

@@ -7,17 +7,14 @@ use Rattle.fr_syntax.specs.declared.line.LineReading.TheVariants as r
 use Rattle.fr_script.specs.declared.outcome.LineOutcome.{LineOutcome}
 use Rattle.fr_syntax.specs.Tokens.{Lexeme}
 use Rattle.fr_syntax.specs.Grammar.{LineTree, line_tokens}
-use Rattle.fr_syntax.specs.Lines.{Located, lexemes, lexeme, located, place_of, passes_nesting}
+use Rattle.fr_syntax.specs.Lines.{Located, lexemes, lexeme, located, passes_nesting}
 use Rattle.fr_syntax.specs.LineValues.{line_read, Reads}
 use Rattle.fr_script.specs.Reading.{begins_statement, faulty, checked, Parses, derived, syntax, ReadsText}
+use Rattle.fr_script.specs.Keeping.{tokens_outcome}
 
 pub lexemes-located : (tokens : List Placed) → map lexeme tokens ≡ lexemes (map located tokens)
 lexemes-located [] = refl
 lexemes-located (t ∷ ts) = ap (λ l. lexeme t ∷ l) (lexemes-located ts)
-
-abbrev pub outcome_of : Bool → List Located → LineReading → LineOutcome
-outcome_of is_first tokens (r.Whole read) = checked is_first read
-outcome_of is_first tokens (r.Syntax k) = faulty (f.Syntax (place_of tokens k))
 
 parses_whole : (d : ℕ) (is_first : Bool) (tokens : List Located) (line : LineTree) (read : _) → read ≡ line_read d line →
     lexemes tokens ≡ line_tokens line → Parses d is_first tokens (checked is_first read)
@@ -25,7 +22,7 @@ parses_whole d is_first tokens line read e h =
     let P : LineOutcome → Type 0 = λ o. Parses d is_first tokens o in
     subst P (ap (checked is_first) (sym e)) (derived line h)
 
-pub parses : (d : ℕ) (is_first : Bool) (tokens : List Located) (read : LineReading) → Reads d (lexemes tokens) read → Parses d is_first tokens (outcome_of is_first tokens read)
+pub parses : (d : ℕ) (is_first : Bool) (tokens : List Located) (read : LineReading) → Reads d (lexemes tokens) read → Parses d is_first tokens (tokens_outcome is_first tokens read)
 parses d is_first tokens (r.Whole read) h = parses_whole d is_first tokens h.0 read h.2 h.1
 parses d is_first tokens (r.Syntax k) h = syntax k h
 
@@ -48,10 +45,10 @@ pub nested : (d : ℕ) (is_first : Bool) (tokens : List Placed) → begins_state
 nested d is_first tokens h k = judged d is_first tokens (faulty f.NestingPassed) true true h k refl
 
 pub parsed : (d : ℕ) (is_first : Bool) (tokens : List Placed) (read : LineReading) → begins_statement (map lexeme tokens) ≡ true →
-    passes_nesting 0 0 (map lexeme tokens) ≡ false → Reads d (map lexeme tokens) read → ReadsText d is_first (map located tokens) (outcome_of is_first (map located tokens) read)
+    passes_nesting 0 0 (map lexeme tokens) ≡ false → Reads d (map lexeme tokens) read → ReadsText d is_first (map located tokens) (tokens_outcome is_first (map located tokens) read)
 parsed d is_first tokens read h k told =
     let P : List Lexeme → Type 0 = λ l. Reads d l read in
-    judged d is_first tokens (outcome_of is_first (map located tokens) read) true false h k
+    judged d is_first tokens (tokens_outcome is_first (map located tokens) read) true false h k
     (parses d is_first (map located tokens) read (subst P (lexemes-located tokens) told))
 
 pub lexemes-same : (tokens : List Placed) (found : List Located) → map located tokens ≡ found → map lexeme tokens ≡ lexemes found

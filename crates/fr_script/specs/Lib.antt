@@ -1,6 +1,7 @@
 pub mod FaultTexts
 pub mod Cycles
 pub mod Reading
+pub mod Keeping
 pub mod Inner
 pub mod Items
 pub mod Blocks

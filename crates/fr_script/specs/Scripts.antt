@@ -1,14 +1,11 @@
 -- A script is cut into lines, and its items are its blocks and its other lines. The language is this project's own.
 use Rattle.std.specs.Prelude.{ℕ, zero, suc, ◌≡◌, ◌+◌, ◌≤◌, Bool, true, false, not, ◌==◌, if◌then◌else◌, List, [], ◌∷◌, ◌++◌, length, take_while, MatchBool}
-use Rattle.fr_syntax.specs.declared.statement.Statement.TheVariants as st
 use Rattle.fr_script.specs.declared.outcome.LineOutcome.{LineOutcome}
-use Rattle.fr_script.specs.declared.outcome.LineOutcome.TheVariants as o
-use Rattle.fr_script.specs.declared.item.Body.{Body}
-use Rattle.fr_script.specs.declared.item.Body.TheVariants as b
 use Rattle.fr_script.specs.declared.item.Item.{Item}
 use Rattle.fr_script.specs.declared.line_reader.State.{State}
 use Rattle.fr_script.specs.declared.script.Script.{Script}
 use Rattle.fr_script.specs.Reading.{ReadsLine}
+use Rattle.fr_script.specs.Keeping.{body_of}
 use Rattle.fr_script.specs.Items.{line_kind, is_blank, is_group, listed, alphabet_after}
 use Rattle.fr_script.specs.Blocks.{before_end, IsBlock}
 use Rattle.fr_script.specs.Pushes.{RunsFrom, end_of, begun}
@@ -26,13 +23,6 @@ lines_of (c ∷ cs) = if c == 10 then [] ∷ lines_of cs else in_front c (lines_
 -- the bytes up to the first byte 10
 abbrev pub first_line : List ℕ → List ℕ
 first_line text = take_while (λ c. not (c == 10)) text
-
--- What the line n outside a block says, or its fault. It is asked for lines that are no `group` line, so the first case
--- does not come.
-abbrev pub body_of : ℕ → LineOutcome → Body
-body_of n o.Group = b.Says (st.Group [])
-body_of n (o.Says statement) = b.Says statement
-body_of n (o.Faulty kind) = b.Faulty (record { line = n; kind = kind })
 
 -- The items of lines over an alphabet of d letters. The next line has the number n, `is_first` says that no item stands
 -- above it, and k lines still belong to the block above. A blank line is no item, a block is one, and any other line is one.

@@ -7,6 +7,7 @@ ghost use Rattle.fr_script.specs.Items as spec;
 
 use crate::fault::{Fault, LineFault};
 use crate::inner::{InnerOutcome, read_inner};
+use crate::kept::{Kept, may_wait};
 use crate::outcome::{LINE_LIMIT, LineOutcome, read_line};
 use fr_alphabet::{Alphabet, NoMemory};
 use fr_syntax::{LineFront, Recursion, Statement, Token, code, line_front};
@@ -24,7 +25,7 @@ pub enum Body {
 #[derive(Drop)]
 pub struct Item {
     pub line: u32,
-    pub body: Body,
+    pub body: Kept,
 }
 
 /// A block that has no end yet: what its lines say, and its first fault.
@@ -121,7 +122,7 @@ fn outside_of(alloc: Global, n: u32, is_group: bool, outcome: LineOutcome) -> Ou
         LineOutcome::Group => Outside::Begins(begin(alloc, n, None)),
         LineOutcome::Says(statement) => Outside::Is(Item {
             line: n,
-            body: Body::Says(statement),
+            body: Kept::whole(Body::Says(statement)),
         }),
         LineOutcome::Faulty(kind) => {
             let fault = Fault { line: n, kind };
@@ -130,7 +131,7 @@ fn outside_of(alloc: Global, n: u32, is_group: bool, outcome: LineOutcome) -> Ou
             } else {
                 Outside::Is(Item {
                     line: n,
-                    body: Body::Faulty(fault),
+                    body: Kept::whole(Body::Faulty(fault)),
                 })
             }
         }
@@ -150,6 +151,10 @@ pub fn read_outside(
     let kind = line_kind(line);
     if is_blank(kind, line) {
         return Ok(Outside::Blank);
+    }
+    if may_wait(line) {
+        let body = Kept::line(alloc, a, is_first, n, line)?;
+        return Ok(Outside::Is(Item { line: n, body }));
     }
     let outcome = read_line(alloc, a, is_first, line)?;
     Ok(outside_of(alloc, n, is_group(kind), outcome))
@@ -224,7 +229,10 @@ fn ended(block: Block, n: u32, is_long: bool) -> Item
         None if is_long => Body::Faulty(long),
         None => Body::Says(Statement::Group(recursions)),
     };
-    Item { line, body }
+    Item {
+        line,
+        body: Kept::whole(body),
+    }
 }
 
 /// Reads the line n, which stands inside a block.

@@ -7,6 +7,7 @@
 mod fault;
 mod inner;
 mod item;
+mod kept;
 mod laws;
 mod line_reader;
 mod outcome;
@@ -19,10 +20,11 @@ mod tests;
 pub use fault::{Fault, LineFault};
 pub use fr_syntax::{Atom, Expr, Factor, Name, Op, Ray, Recursion, SecName, SecWord, Statement};
 pub use item::{Body, Item};
+pub use kept::{Kept, Told, may_wait};
 pub use laws::{
     disjoint_cycles_are_their_product, pushes_are_unique, scripts_are_read_by_lines,
     scripts_are_unique, scripts_exist, scripts_fit,
 };
 pub use line_reader::{LineReader, ScriptFault};
 pub use print::print_fault;
-pub use script::{Script, read_script};
+pub use script::{Cut, Script, cut_line, read_script};

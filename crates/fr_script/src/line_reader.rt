@@ -1,14 +1,13 @@
 //! A reader that is given a script line by line.
 
 ghost use Rattle.std.specs.Prelude.{◌≡◌, ◌<◌, ◌↔◌, IfOk, IsErr, IsNone, IsOk, Err, Some};
-ghost use Rattle.fr_script.specs.Items.{alphabet_after};
 ghost use Rattle.fr_script.specs.Fits.{GivesFitting};
 ghost use Rattle.fr_script.specs.Pushes as spec;
 
 use crate::fault::{Fault, LineFault};
 use crate::item::{Block, Body, Inside, Item, Outside, read_inside, read_outside};
+use crate::kept::Kept;
 use fr_alphabet::{Alphabet, NoMemory};
-use fr_syntax::Statement;
 use std::alloc::{AllocFailed, Global};
 use std::marker::Model;
 
@@ -65,15 +64,6 @@ impl From<NoMemory> for ScriptFault {
     }
 }
 
-fn alphabet_after(a: Alphabet, item: &Item) -> Alphabet
-    ensures { result ≡ alphabet_after a item.now.body }
-{
-    match &item.body {
-        Body::Says(Statement::Alphabet(new)) => *new,
-        _ => a,
-    }
-}
-
 fn after_outside(alphabet: Alphabet, begun: bool, count: u32, outside: Outside) -> Advance
     ensures { result ≡ spec.after_outside alphabet begun count outside }
 {
@@ -98,7 +88,7 @@ fn after_outside(alphabet: Alphabet, begun: bool, count: u32, outside: Outside) 
         },
         Outside::Is(item) => Advance {
             state: State {
-                alphabet: alphabet_after(alphabet, &item),
+                alphabet: item.body.alphabet_after(alphabet),
                 count,
                 begun: true,
                 block: None,
@@ -284,6 +274,6 @@ fn end_of(block: Option<Block>) -> Option<Item>
     };
     Some(Item {
         line,
-        body: Body::Faulty(fault),
+        body: Kept::whole(Body::Faulty(fault)),
     })
 }

@@ -12,9 +12,12 @@ use sqlite_items::Items;
 use std::alloc::Global;
 
 /// A line at the front of a text, and what follows it.
-struct Cut<'a> {
-    line: &'a [u8],
-    rest: &'a [u8],
+#[derive(Clone, Copy, Debug)]
+pub struct Cut<'a> {
+    /// The line, without its newline.
+    pub line: &'a [u8],
+    /// What follows the newline.
+    pub rest: &'a [u8],
 }
 
 fn line_length(text: &[u8]) -> usize
@@ -23,7 +26,8 @@ fn line_length(text: &[u8]) -> usize
     text.iter().take_while(|c| **c != b'\n').count()
 }
 
-fn cut_line(text: &[u8]) -> Cut<'_>
+/// Cuts the first line off a text that is not empty.
+pub fn cut_line(text: &[u8]) -> Cut<'_>
     requires { 0 < length text.now }
     ensures lines { spec.lines_of text.now ≡ result.line.now ∷ spec.lines_of result.rest.now }
     ensures shorter { length result.rest.now < length text.now }

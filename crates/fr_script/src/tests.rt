@@ -1,21 +1,41 @@
 //! Worked examples of the language.
 
-use crate::{Body, Fault, LineFault, LineReader, ScriptFault, print_fault, read_script};
-use fr_alphabet::NoMemory;
+use crate::{
+    Body, Fault, Kept, LineFault, LineReader, ScriptFault, Statement, print_fault, read_script,
+};
+use fr_alphabet::{NoMemory, print_word};
 use std::alloc::Global;
 use std::test::Fail;
 
 // A block of one name, before the line that a case is about.
 const ADDING_MACHINE: &[u8] = b"group\nt = <1,t>(1,2)\nend\n";
 
+// Appends the fault of an item that has one.
+fn print_faulty(alloc: Global, kept: &Kept, text: &mut Vec<u8>) -> Result<(), NoMemory> {
+    let told = kept.read(alloc)?;
+    match told.body() {
+        Body::Faulty(fault) => print_fault(fault, text),
+        Body::Says(_) => Ok(()),
+    }
+}
+
+// Appends the fault of an item, the word on which it acts, or the name that it binds.
+fn print_said(alloc: Global, kept: &Kept, text: &mut Vec<u8>) -> Result<(), NoMemory> {
+    let told = kept.read(alloc)?;
+    match told.body() {
+        Body::Faulty(fault) => print_fault(fault, text),
+        Body::Says(Statement::Act(_, word)) => print_word(word, text),
+        Body::Says(Statement::Let(name, _)) => Ok(text.extend_from_slice(name.bytes())?),
+        Body::Says(_) => Ok(()),
+    }
+}
+
 // The texts of the faulty items of a script.
 fn faults(alloc: Global, script: &[u8]) -> Result<Vec<u8>, ScriptFault> {
     let mut text = Vec::new(alloc);
     let script = read_script(alloc, script)?;
     for item in script.items.as_slice() {
-        if let Body::Faulty(fault) = &item.body {
-            print_fault(fault, &mut text)?;
-        }
+        print_faulty(alloc, &item.body, &mut text)?;
     }
     Ok(text)
 }
@@ -46,13 +66,35 @@ fn a_line_ends_an_item(rt: HostRuntime) -> Result<(), Fail> {
 fn a_block_wants_an_end(rt: HostRuntime) -> Result<(), Fail> {
     let mut reader = LineReader::new(rt.alloc())?;
     assert!(rt; reader.push(b"group")?.is_none());
-    let body = reader.finish()?.map(|item| item.body);
-    let Some(Body::Faulty(fault)) = body else {
-        panic!(rt; "no fault");
-    };
+    let item = reader.finish()?.expect(&rt, "an item");
     let mut text = Vec::new(rt.alloc());
-    print_fault(&fault, &mut text)?;
+    print_faulty(rt.alloc(), &item.body, &mut text)?;
     assert_eq!(rt; text.as_slice(), "line 1: no end\n".as_bytes());
+    Ok(())
+}
+
+#[test]
+fn a_kept_line_is_read_as_what_it_says(rt: HostRuntime) -> Result<(), Fail> {
+    let cases = [
+        ("alphabet 3\nact t 3213", true, "3213"),
+        (
+            "alphabet 2\nact t 3213",
+            true,
+            "line 2: letter out of range\n",
+        ),
+        ("  let u = t # a name", false, "u"),
+        ("let = t", false, "line 1: syntax at 5\n"),
+        ("frob", true, "line 1: unknown statement\n"),
+        ("alphabet 9", false, "line 1: alphabet out of range\n"),
+    ];
+    for (lines, asks, expected) in cases {
+        let script = read_script(rt.alloc(), lines.as_bytes())?;
+        let item = script.items.as_slice().last().expect(&rt, "an item");
+        assert_eq!(rt; item.body.asks(), asks, "at {lines}");
+        let mut text = Vec::new(rt.alloc());
+        print_said(rt.alloc(), &item.body, &mut text)?;
+        assert_eq!(rt; text.as_slice(), expected.as_bytes(), "at {lines}");
+    }
     Ok(())
 }
 
