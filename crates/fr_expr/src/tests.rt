@@ -8,7 +8,7 @@ use super::*;
 use fr_alphabet::{Alphabet, NoMemory};
 use fr_canon::read_machine;
 use fr_script::LineFault;
-use fr_store::{Store, VecStore};
+use fr_store::{Counted, Store, VecStore};
 use fr_syntax::{Atom, Expr, Factor, Name, Op};
 use sqlite_items::Items;
 use std::alloc::Global;
@@ -16,6 +16,8 @@ use std::test::Fail;
 
 // A cycle of two states, neither of which is the identity.
 const CYCLE: &[u8] = b"states 2\n1 = <2,1>(1,2)\n2 = <1,2>\n";
+
+const ADDING: &[u8] = b"states 2\n1 = <2,1>(1,2)\n2 = <2,2>\n";
 
 // The expression of a power of an atom, with the exponent -3.
 fn cube_of_inverse(alloc: Global, atom: Atom) -> Result<Expr, NoMemory>
@@ -84,5 +86,29 @@ fn a_full_store_says_how_full(rt: HostRuntime) -> Result<(), Fail> {
         })
     );
     assert_eq!(rt; charge, 0);
+    Ok(())
+}
+
+// The square and the fourth power of the adding machine have 3 and 4 states.
+#[test]
+fn a_product_is_made_once(rt: HostRuntime) -> Result<(), Fail> {
+    let a = Alphabet::new(2).expect(&rt, "two letters");
+    let adding = read_machine(rt.alloc(), a, ADDING)?;
+    let mut store = Counted::new(VecStore::new(rt.alloc(), a, 16)?);
+    let t = store.intern(&adding).ok().expect(&rt, "room");
+    let mut charge = 0;
+    let square = multiply(rt.alloc(), &mut store, t, t, &mut charge)
+        .ok()
+        .expect(&rt, "a square");
+    let fourth = multiply(rt.alloc(), &mut store, square, square, &mut charge)
+        .ok()
+        .expect(&rt, "a fourth power");
+    assert_eq!(rt; store.recall(t, t), Some(square));
+    assert_eq!(rt; store.recall(square, square), Some(fourth));
+    assert_eq!(rt; store.recall(square, t), None);
+    let again = multiply(rt.alloc(), &mut store, t, t, &mut charge);
+    assert_eq!(rt; again, Ok(square));
+    assert_eq!(rt; store.built(), 4);
+    assert_eq!(rt; charge, 10);
     Ok(())
 }

@@ -11,11 +11,11 @@ use Rattle.fr_store.proofs.IndexLaws.{holds_push, holds_push_new, holds_push_onl
 less_one : (n : ℕ) → n + 1 - 1 ≡ n
 less_one n = omega arith
 
-cell_at-lt : (cells start steps : ℕ) → 0 < cells → cell_at cells start steps < cells
+pub cell_at-lt : (cells start steps : ℕ) → 0 < cells → cell_at cells start steps < cells
 cell_at-lt cells start steps l = mod-lt (start + steps) l
 
 -- a walk comes to each cell
-steps_to : (cells start c : ℕ) → start < cells → c < cells → (i : ℕ) × (i < cells) × (cell_at cells start i ≡ c)
+pub steps_to : (cells start c : ℕ) → start < cells → c < cells → (i : ℕ) × (i < cells) × (cell_at cells start i ≡ c)
 steps_to cells start c s l = elim (cases_lt c start) [
   | inl t ↦
       let i = c + cells - start in

@@ -50,6 +50,17 @@ pub record IsTable (code : ℕ → List ℕ) (handles cells : List ℕ) : Type 0
   pub once : (c e : ℕ) → c < length cells → e < length cells → slice_index cells c ≢ 0 → slice_index cells c ≡ slice_index cells e → c ≡ e
   pub met : (n steps : ℕ) → holds handles n ≡ true → met_at cells (code n) steps ≡ 0 → ¬ ((i : ℕ) → i < steps → met_at cells (code n) i ≢ n + 1)
 
+-- no cell is empty
+abbrev pub AreFull : List ℕ → Type 0
+AreFull cells = (c : ℕ) → c < length cells → slice_index cells c ≢ 0
+
+-- this cell is the first 0 on a walk
+pub record IsFirstEmpty (cells : List ℕ) (start cell : ℕ) : Type 0 where
+  pub steps : ℕ
+  pub is : cell ≡ cell_at (length cells) start steps
+  pub empty : slice_index cells cell ≡ 0
+  pub passed : (i : ℕ) → i < steps → slice_index cells (cell_at (length cells) start i) ≢ 0
+
 -- a walk from the home of a code has met handles with other codes alone
 abbrev pub IsPassed : (ℕ → List ℕ) → List ℕ → List ℕ → ℕ → Type 0
 IsPassed code cells wanted steps = (i : ℕ) → i < steps → (met_at cells wanted i ≢ 0) × (code (met_at cells wanted i - 1) ≢ wanted)

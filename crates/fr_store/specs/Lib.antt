@@ -7,4 +7,5 @@ pub mod Index
 pub mod Props
 pub mod Rebuilt
 pub mod Entered
+pub mod Products
 pub mod VecView

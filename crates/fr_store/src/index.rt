@@ -1,17 +1,23 @@
 //! Handles, and a hash table in which they are found by their codes. A code is made again from the rows where it is
 //! compared.
 
-ghost use Rattle.std.specs.Prelude.{ℕ, ◌≡◌, ◌+◌, ◌-◌, ◌*◌, ◌<◌, ◌≤◌, ◌^◌, [], ◌∷◌, ◌++◌, IfOk, MatchResult, length, slice_index, slice_set, vec_len, vec_capacity};
+ghost use Rattle.std.specs.Prelude.{ℕ, ◌≡◌, ◌+◌, ◌-◌, ◌*◌, ◌<◌, ◌≤◌, ◌^◌, [], ◌∷◌, ◌++◌, IfOk, MatchResult, length, take, replicate, slice_index, slice_set, vec_len, vec_capacity};
 ghost use Rattle.fr_model.specs.Words.{IsLetter};
 ghost use Rattle.fr_store.specs.Coded.{codes_of};
 ghost use Rattle.fr_store.specs.Entered.{IsEntered};
-ghost use Rattle.fr_store.specs.Index.{AreDistinct, IsFound, IsGap, IsTable, IsIndex, IsGiven, AreHints, IsLinked};
+ghost use Rattle.fr_store.specs.Index.{AreDistinct, IsFound, IsGap, IsTable, IsIndex, IsGiven, AreHints, IsLinked, AreFull, IsFirstEmpty};
 
 use crate::blocks::Blocks;
 use fr_alphabet::NoMemory;
 use fr_canon::{Code, Scratch, home};
 use fr_machine::Minimal;
 use std::alloc::Global;
+
+// A table begins with 2^FIRST_BITS cells where it may have so many.
+const FIRST_BITS: u32 = 11;
+
+// It is widened to 2^WIDER_BITS times as many.
+const WIDER_BITS: u32 = 4;
 
 /// Where codes are made and compared.
 #[derive(Debug, Drop)]
@@ -43,7 +49,8 @@ impl Desk {
     }
 }
 
-/// The handles of a store on blocks of rows. All memory is taken when it is made. This project's own.
+/// The handles of a store on blocks of rows. All memory is taken when it is made; the hash table begins small, and is widened
+/// in place. This project's own.
 #[derive(Debug, Drop)]
 pub(crate) struct Index {
     // For each row the handle of its element.
@@ -54,29 +61,135 @@ pub(crate) struct Index {
     pub cells: Vec<u32>,
     // There are 2^bits cells.
     bits: u32,
+    // There is room for 2^most_bits cells.
+    pub most_bits: u32,
     ghost power: { length cells.items ≡ 2 ^ bits },
-    ghost most: { bits ≤ 21 },
+    ghost some: { 0 < length cells.items },
+    ghost within: { bits ≤ most_bits },
+    ghost most: { most_bits ≤ 21 },
+    ghost room: { 2 ^ most_bits ≤ vec_capacity cells },
 }
 
 impl Index {
-    /// No handles, with room for so many rows and at least twice as many cells. The only error is want of memory.
+    /// No handles, with room for so many rows and at least twice as many cells, of which few are there. The only error is want
+    /// of memory.
     pub fn new(alloc: Global, room: u32) -> Result<Index, NoMemory>
         requires least { 1 ≤ room }
         requires limit { room ≤ 1048576 }
         ensures links { IfOk result (λ i. i.links.items ≡ []) }
         ensures handles { IfOk result (λ i. i.handles.items ≡ []) }
         ensures cells { IfOk result (λ i. (c : ℕ) → slice_index i.cells.items c ≡ 0) }
-        ensures half { IfOk result (λ i. 2 * room ≤ length i.cells.items) }
+        ensures half { IfOk result (λ i. 2 * room ≤ 2 ^ i.most_bits) }
         ensures link_room { IfOk result (λ i. room ≤ vec_capacity i.links) }
         ensures handle_room { IfOk result (λ i. room ≤ vec_capacity i.handles) }
     {
-        let bits = bits_for(room);
+        let most_bits = bits_for(room);
+        let bits = most_bits.min(FIRST_BITS);
+        let mut cells = Vec::with_capacity(alloc, 2usize.pow(most_bits))?;
+        push_empty(&mut cells, 2usize.pow(bits));
         Ok(Index {
             links: Vec::with_capacity(alloc, room as usize)?,
             handles: Vec::with_capacity(alloc, room as usize)?,
-            cells: vec![in alloc; 0u32; 2usize.pow(bits)]?,
+            cells,
             bits,
+            most_bits,
         })
+    }
+
+    // To how many bits the table is widened where it is too small for so many rows: to 16 times as many cells where there is
+    // room, since each time all handles are coded again.
+    fn wider(&self, rows: u32) -> u32
+        requires least { 1 ≤ rows }
+        requires room { 2 * rows ≤ 2 ^ self.now.most_bits }
+        ensures half { 2 * rows ≤ 2 ^ result }
+        ensures most { result ≤ self.now.most_bits }
+    {
+        let few = bits_for(rows);
+        few.max(self.bits + WIDER_BITS).min(self.most_bits)
+    }
+
+    // Empties the table, which has 2^bits cells from now on. There is room for them.
+    fn widen(&mut self, bits: u32)
+        requires { bits ≤ self.old.most_bits }
+        ensures empty { (c : ℕ) → slice_index self.new.cells.items c ≡ 0 }
+        ensures cells { length self.new.cells.items ≡ 2 ^ bits }
+        ensures most_bits { self.new.most_bits ≡ self.old.most_bits }
+        ensures handles { self.new.handles ≡ self.old.handles }
+        ensures links { self.new.links ≡ self.old.links }
+    {
+        self.cells.clear();
+        push_empty(&mut self.cells, 2usize.pow(bits));
+        self.bits = bits;
+    }
+
+    // The first cell that is empty on a walk upwards; behind the last cell comes the first.
+    fn first_empty(&self, start: usize) -> usize
+        requires start { start < length self.now.cells.items }
+        requires some { ¬ AreFull self.now.cells.items }
+        ensures { IsFirstEmpty self.now.cells.items start result }
+    {
+        let cells = self.cells.len();
+        for steps in 0..cells {
+            let cell = (start + steps) % cells;
+            if self.cells[cell] == 0 {
+                return cell;
+            }
+        }
+        unreachable!()
+    }
+
+    // Enters handle k, counted from 0, in the table, where those before it stand.
+    fn reenter(&mut self, blocks: &Blocks, desk: &mut Desk, k: usize)
+        requires distinct { AreDistinct (codes_of blocks.now) (length blocks.now.rows.items) self.old.handles.items }
+        requires table { IsTable (codes_of blocks.now) (take k self.old.handles.items) self.old.cells.items }
+        requires few { length blocks.now.rows.items < length self.old.cells.items }
+        requires next { k < length self.old.handles.items }
+        ensures table { IsTable (codes_of blocks.now) (take (k + 1) self.old.handles.items) self.new.cells.items }
+        ensures cells { length self.new.cells.items ≡ length self.old.cells.items }
+        ensures most_bits { self.new.most_bits ≡ self.old.most_bits }
+        ensures handles { self.new.handles ≡ self.old.handles }
+        ensures links { self.new.links ≡ self.old.links }
+    {
+        let handle = self.handles[k];
+        blocks.code(&mut desk.scratch, handle, &mut desk.wanted);
+        let start = home(&desk.wanted, self.cells.len() as u32) as usize;
+        let cell = self.first_empty(start);
+        self.cells[cell] = handle + 1;
+    }
+
+    // Enters all handles in a table that is empty.
+    fn reenter_all(&mut self, blocks: &Blocks, desk: &mut Desk)
+        requires distinct { AreDistinct (codes_of blocks.now) (length blocks.now.rows.items) self.old.handles.items }
+        requires empty { (c : ℕ) → slice_index self.old.cells.items c ≡ 0 }
+        requires few { length blocks.now.rows.items < length self.old.cells.items }
+        ensures table { IsTable (codes_of blocks.now) self.old.handles.items self.new.cells.items }
+        ensures cells { length self.new.cells.items ≡ length self.old.cells.items }
+        ensures most_bits { self.new.most_bits ≡ self.old.most_bits }
+        ensures handles { self.new.handles ≡ self.old.handles }
+        ensures links { self.new.links ≡ self.old.links }
+    {
+        for k in 0..self.handles.len() {
+            self.reenter(blocks, desk, k);
+        }
+    }
+
+    /// Sees to it that there are at least twice as many cells as `rows`, which are those that are there and some to come.
+    pub fn make_room(&mut self, blocks: &Blocks, desk: &mut Desk, rows: u32)
+        requires distinct { AreDistinct (codes_of blocks.now) (length blocks.now.rows.items) self.old.handles.items }
+        requires table { IsTable (codes_of blocks.now) self.old.handles.items self.old.cells.items }
+        requires more { length blocks.now.rows.items < rows }
+        requires room { 2 * rows ≤ 2 ^ self.old.most_bits }
+        ensures table { IsTable (codes_of blocks.now) self.old.handles.items self.new.cells.items }
+        ensures half { 2 * rows ≤ length self.new.cells.items }
+        ensures most_bits { self.new.most_bits ≡ self.old.most_bits }
+        ensures handles { self.new.handles ≡ self.old.handles }
+        ensures links { self.new.links ≡ self.old.links }
+    {
+        if 2 * rows as usize <= self.cells.len() {
+            return;
+        }
+        self.widen(self.wider(rows));
+        self.reenter_all(blocks, desk);
     }
 
     /// Looks for the wanted code. The answer is the handle that has it, or the cell where it would stand.
@@ -111,6 +224,7 @@ impl Index {
         requires room { length self.old.handles.items < vec_capacity self.old.handles }
         ensures handles { self.new.handles.items ≡ self.old.handles.items ++ row ∷ [] }
         ensures cells { self.new.cells.items ≡ slice_set self.old.cells.items cell (row + 1) }
+        ensures most_bits { self.new.most_bits ≡ self.old.most_bits }
         ensures links { self.new.links ≡ self.old.links }
         ensures room { vec_capacity self.old.handles ≤ vec_capacity self.new.handles }
     {
@@ -128,6 +242,7 @@ impl Index {
         ensures given { IsGiven (codes_of blocks.now) (length blocks.now.rows.items) row self.old.handles.items self.new.handles.items self.new.cells.items result }
         ensures hints { desk.new.hints ≡ desk.old.hints }
         ensures cells { length self.new.cells.items ≡ length self.old.cells.items }
+        ensures most_bits { self.new.most_bits ≡ self.old.most_bits }
         ensures links { self.new.links ≡ self.old.links }
         ensures room { vec_capacity self.old.handles ≤ vec_capacity self.new.handles }
     {
@@ -154,6 +269,7 @@ impl Index {
         ensures given { IsGiven (codes_of blocks.now) (length blocks.now.rows.items) row self.old.handles.items self.new.handles.items self.new.cells.items result }
         ensures hints { desk.new.hints ≡ desk.old.hints }
         ensures cells { length self.new.cells.items ≡ length self.old.cells.items }
+        ensures most_bits { self.new.most_bits ≡ self.old.most_bits }
         ensures links { self.new.links ≡ self.old.links }
         ensures room { vec_capacity self.old.handles ≤ vec_capacity self.new.handles }
     {
@@ -215,6 +331,7 @@ impl Index {
         ensures linked { IsLinked (codes_of blocks.now) (length blocks.now.rows.items) 1 self.old.handles.items self.old.links.items self.new.handles.items self.new.links.items self.new.cells.items }
         ensures hints { AreHints (codes_of blocks.now) self.new.handles.items start desk.new.hints.items }
         ensures cells { length self.new.cells.items ≡ length self.old.cells.items }
+        ensures most_bits { self.new.most_bits ≡ self.old.most_bits }
         ensures handle_room { vec_capacity self.old.handles ≤ vec_capacity self.new.handles }
         ensures link_room { vec_capacity self.old.links ≤ vec_capacity self.new.links }
     {
@@ -239,6 +356,7 @@ impl Index {
         requires link_room { length blocks.now.rows.items ≤ vec_capacity self.old.links }
         ensures linked { IsLinked (codes_of blocks.now) (length blocks.now.rows.items) count self.old.handles.items self.old.links.items self.new.handles.items self.new.links.items self.new.cells.items }
         ensures cells { length self.new.cells.items ≡ length self.old.cells.items }
+        ensures most_bits { self.new.most_bits ≡ self.old.most_bits }
         ensures handle_room { vec_capacity self.old.handles ≤ vec_capacity self.new.handles }
         ensures link_room { vec_capacity self.old.links ≤ vec_capacity self.new.links }
     {
@@ -261,6 +379,7 @@ impl Index {
         ensures alphabet { blocks.new.alphabet ≡ blocks.old.alphabet }
         ensures entered { IsEntered blocks.old.alphabet blocks.old.rows.items blocks.old.places.items self.old.handles.items m.now.rows blocks.new.rows.items blocks.new.places.items self.new.handles.items self.new.links.items self.new.cells.items result }
         ensures cells { length self.new.cells.items ≡ length self.old.cells.items }
+        ensures most_bits { self.new.most_bits ≡ self.old.most_bits }
         ensures row_room { vec_capacity blocks.old.rows ≤ vec_capacity blocks.new.rows }
         ensures place_room { vec_capacity blocks.old.places ≤ vec_capacity blocks.new.places }
         ensures handle_room { vec_capacity self.old.handles ≤ vec_capacity self.new.handles }
@@ -282,4 +401,15 @@ fn bits_for(room: u32) -> u32
     ensures most { result ≤ 21 }
 {
     (2 * room - 1).ilog2() + 1
+}
+
+// Appends so many empty cells, for which there is room.
+fn push_empty(cells: &mut Vec<u32>, count: usize)
+    requires { length cells.old.items + count ≤ vec_capacity cells.old }
+    ensures cells { cells.new.items ≡ cells.old.items ++ replicate count 0 }
+    ensures room { vec_capacity cells.old ≤ vec_capacity cells.new }
+{
+    for _ in 0..count {
+        let _ = cells.push(0);
+    }
 }

@@ -5,6 +5,7 @@ mod blocks;
 mod counted;
 mod handle;
 mod index;
+mod products;
 mod rebuild;
 mod store;
 #[cfg(test)]

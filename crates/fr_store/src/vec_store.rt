@@ -1,13 +1,16 @@
 //! A store for one thread, on blocks of rows.
 
-ghost use Rattle.std.specs.Prelude.{ℕ, ◌≡◌, ◌≤◌, ◌<◌, ◌+◌, ◌*◌, IfOk, length, vec_capacity};
+ghost use Rattle.std.specs.Prelude.{ℕ, ◌≡◌, ◌≤◌, ◌<◌, ◌+◌, ◌*◌, ◌^◌, IfOk, IfSome, length, vec_capacity};
+ghost use Rattle.fr_model.specs.Terms.{Term};
 ghost use Rattle.fr_store.specs.Coded.{codes_of};
 ghost use Rattle.fr_store.specs.Index.{IsIndex, IsTable, known_in};
-ghost use Rattle.fr_store.specs.Store.{AreHandles, IsHandleCount, Reads};
+ghost use Rattle.fr_store.specs.Products.{AreProducts};
+ghost use Rattle.fr_store.specs.Store.{IsKnown, Stands, AreHandles, IsHandleCount, IsRecalled, Reads};
 
 use crate::blocks::Blocks;
 use crate::handle::{Full, Handle};
 use crate::index::{Desk, Index};
+use crate::products::Products;
 use crate::rebuild::{count_states, rebuild};
 use crate::store::Store;
 use fr_alphabet::{Alphabet, NoMemory, Perm};
@@ -16,20 +19,24 @@ use fr_machine::Minimal;
 use std::alloc::Global;
 
 /// A store for one thread. It keeps the rows of the elements that were claimed, and finds its handles by a hash of their
-/// codes; a code is made again from the rows where it is compared. All memory is taken when it is made. This project's own.
+/// codes; a code is made again from the rows where it is compared. It remembers some 8,000 products, and forgets one where
+/// another needs its place. All memory is taken when it is made. This project's own.
 #[derive(Debug, Drop)]
 pub struct VecStore {
     blocks: Blocks,
     index: Index,
     capacity: u32,
     desk: Desk,
+    products: Products,
     ghost is_index: { IsIndex (codes_of blocks) (length blocks.rows.items) index.handles.items index.links.items },
     ghost is_table: { IsTable (codes_of blocks) index.handles.items index.cells.items },
+    ghost are_products: { AreProducts blocks.alphabet (known_in (codes_of blocks) index.handles.items) products.entries.items },
     ghost whole: { length index.links.items ≡ length blocks.rows.items },
     ghost fits: { length blocks.rows.items ≤ capacity },
     ghost some: { 1 ≤ capacity },
     ghost limit: { capacity ≤ 1048576 },
-    ghost half: { 2 * capacity ≤ length index.cells.items },
+    ghost half: { 2 * length blocks.rows.items ≤ length index.cells.items },
+    ghost cell_room: { 2 * capacity ≤ 2 ^ index.most_bits },
     ghost row_room: { capacity ≤ vec_capacity blocks.rows },
     ghost place_room: { capacity ≤ vec_capacity blocks.places },
     ghost handle_room: { capacity ≤ vec_capacity index.handles },
@@ -56,6 +63,7 @@ impl VecStore {
             index: Index::new(alloc, capacity)?,
             capacity,
             desk: Desk::new(alloc)?,
+            products: Products::new(alloc)?,
         })
     }
 
@@ -66,9 +74,11 @@ impl VecStore {
         self.blocks.rows.len() as u64
     }
 
-    /// How many handles it has given, to elements and to their sections.
+    /// How many handles it has given, to elements and to their sections: as many as there are elements among these, up to
+    /// acting alike.
     pub fn census(&self) -> u64
-        ensures { IsHandleCount (vec_view.known self.now) result }
+        ensures count { IsHandleCount (vec_view.known self.now) result }
+        ensures handles { AreHandles (vec_view.alphabet self.now) (vec_view.known self.now) }
     {
         self.index.handles.len() as u64
     }
@@ -107,6 +117,8 @@ impl Store for VecStore {
                 asked: asked as u64,
             });
         }
+        self.index
+            .make_room(&self.blocks, &mut self.desk, (before + asked) as u32);
         let node = self.index.enter(&mut self.blocks, &mut self.desk, m);
         Ok(Handle { node })
     }
@@ -138,13 +150,21 @@ impl Store for VecStore {
         rebuild(alloc, self.blocks.alphabet, self.desk.wanted.numbers())
     }
 
-    /// None always, since it keeps no products.
-    fn recall(&mut self, _a: Handle, _b: Handle) -> Option<Handle>
-        ensures nothing { result ≡ None }
+    /// The handle of the product, first `a` and then `b`, where it was offered and no other took its place. Nothing becomes
+    /// known.
+    fn recall(&mut self, a: Handle, b: Handle) -> Option<Handle>
+        requires a_known { IsKnown (vec_view.known self.old) a }
+        requires b_known { IsKnown (vec_view.known self.old) b }
+        ensures product { IfSome result (λ h. (t u : Term) → Stands vec_view self.old a t → Stands vec_view self.old b u → IsRecalled (vec_view.alphabet self.old) t u (vec_view.known self.old) (vec_view.known self.new) h) }
+        ensures handles { IfSome result (λ h. AreHandles (vec_view.alphabet self.old) (vec_view.known self.new)) }
+        ensures known { IfSome result (λ h. IsKnown (vec_view.known self.new) h) }
         ensures reads { Reads vec_view self.old self.new }
     {
-        None
+        let node = self.products.get(a.node, b.node)?;
+        Some(Handle { node })
     }
 
-    fn remember(&mut self, _a: Handle, _b: Handle, _c: Handle) {}
+    fn remember(&mut self, a: Handle, b: Handle, c: Handle) {
+        self.products.put(a.node, b.node, c.node);
+    }
 }

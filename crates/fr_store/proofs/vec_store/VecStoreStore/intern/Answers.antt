@@ -6,10 +6,13 @@ use Rattle.fr_model.specs.Canonical.{IsCode}
 use Rattle.fr_machine.specs.Rows.{row_term}
 use Rattle.fr_store.specs.Store.{StandsForTerm, AreHandles, GrowsBy, Keeps}
 use Rattle.fr_store.specs.Blocks.{code_at}
+use Rattle.fr_store.specs.Entered.{IsEntered}
 use Rattle.fr_store.specs.Index.{known_in, IsIndex}
 use Rattle.fr_store.proofs.TableLaws.{IsNew-gap}
 use Rattle.fr_store.proofs.StoreLaws.{IsKnown-stands}
 use Rattle.fr_store.proofs.VecLaws.{AreHandles-index, IsKnown-holds, known_from, IsUnknown-new}
+use Rattle.fr_store.specs.Products.{AreProducts}
+use Rattle.fr_store.proofs.ProductLaws.{AreProducts-keeps}
 use Rattle.fr_store.proofs.vec_store.VecStoreStore.intern.Goals as goal
 
 -- the only code of a term, at the alphabet of the store
@@ -85,7 +88,8 @@ returns-clause-outcome c = λ t valid a.
     let unknown = IsUnknown-new b.alphabet b.rows.items b.places.items b.are_blocks s.index.handles.items s.index.links.items s.is_index s.whole t out new only in
     let asked : length c.rows-asked.result.now ≡ length c.args.m.now.rows = ap length (c.rows-asked.ensures.value ∙ ap (λ m. m.rows) c.machine.ensures.value) in
     let before : c.len-before.result ≡ length b.rows.items = search rules in
-    let e = c.enter-node.ensures.entered in
+    let S : List ℕ → Type 0 = λ old. IsEntered b.alphabet b.rows.items b.places.items old c.args.m.now.rows n.rows.items n.places.items hs c.enter-node.new.self.links.items c.enter-node.new.self.cells.items c.enter-node.result in
+    let e = subst S (ap (λ v. v.items) c.make_room.ensures.handles) c.enter-node.ensures.entered in
     let count = e.count in
     let Q : ℕ → Type 0 = λ d. StandsForTerm b.alphabet (known_in (code_at d n.rows.items n.places.items) hs) (record { node = c.enter-node.result }) t in
     let R : ℕ → Type 0 = λ d. GrowsBy b.alphabet (known_in code s.index.handles.items) (known_in (code_at d n.rows.items n.places.items) hs) (t ∷ []) in
@@ -121,7 +125,9 @@ returns-clause-keeps c =
     let P : ℕ → Type 0 = λ d. IsTerm d t in
     let Q : ℕ → Type 0 = λ d. Keeps (known_in (code_at b.alphabet b.rows.items b.places.items) s.index.handles.items) (known_in (code_at d n.rows.items n.places.items) c.enter-node.new.self.handles.items) in
     let valid = subst P c.requires (IsTerm-row_term m.alphabet m.rows 0 c.machine.ensures.valid.machine c.machine.ensures.valid.machine.least) in
-    subst Q (sym c.enter-node.ensures.alphabet) (c.enter-node.ensures.entered.grows t valid (alike_refl t)).keeps
+    let R : List ℕ → Type 0 = λ hs. IsEntered b.alphabet b.rows.items b.places.items hs c.args.m.now.rows c.enter-node.new.blocks.rows.items c.enter-node.new.blocks.places.items c.enter-node.new.self.handles.items c.enter-node.new.self.links.items c.enter-node.new.self.cells.items c.enter-node.result in
+    let e = subst R (ap (λ v. v.items) c.make_room.ensures.handles) c.enter-node.ensures.entered in
+    subst Q (sym c.enter-node.ensures.alphabet) (e.grows t valid (alike_refl t)).keeps
 
 pub returns-in-Ok-clause-known : goal.returns-in-Ok-clause-known
 returns-in-Ok-clause-known c =
@@ -143,3 +149,21 @@ returns-clause-known c =
     let valid = subst P c.requires (IsTerm-row_term m.alphabet m.rows 0 c.machine.ensures.valid.machine c.machine.ensures.valid.machine.least) in
     let stands = subst Q (sym c.enter-node.ensures.alphabet) (c.enter-node.ensures.entered.handle t valid (alike_refl t)) in
     IsKnown-stands n.alphabet (known_in (code_at n.alphabet n.rows.items n.places.items) hs) (record { node = c.enter-node.result }) t stands
+
+-- what was remembered is still true
+pub invariant_of-self-3-clause-are_products : goal.invariant_of-self-3-clause-are_products
+invariant_of-self-3-clause-are_products c =
+    let s = c.args.self.now in
+    let b = s.blocks in
+    let n = c.enter-node.new.blocks in
+    let m = c.args.m.now in
+    let t = row_term m.rows 0 in
+    let P : ℕ → Type 0 = λ d. IsTerm d t in
+    let old = known_in (code_at b.alphabet b.rows.items b.places.items) s.index.handles.items in
+    let new = λ (d : ℕ). known_in (code_at d n.rows.items n.places.items) c.enter-node.new.self.handles.items in
+    let Q : ℕ → Type 0 = λ d. AreProducts d (new d) s.products.entries.items in
+    let valid = subst P c.requires (IsTerm-row_term m.alphabet m.rows 0 c.machine.ensures.valid.machine c.machine.ensures.valid.machine.least) in
+    let R : List ℕ → Type 0 = λ hs. IsEntered b.alphabet b.rows.items b.places.items hs c.args.m.now.rows c.enter-node.new.blocks.rows.items c.enter-node.new.blocks.places.items c.enter-node.new.self.handles.items c.enter-node.new.self.links.items c.enter-node.new.self.cells.items c.enter-node.result in
+    let e = subst R (ap (λ v. v.items) c.make_room.ensures.handles) c.enter-node.ensures.entered in
+    let keeps = (e.grows t valid (alike_refl t)).keeps in
+    subst Q (sym c.enter-node.ensures.alphabet) (AreProducts-keeps b.alphabet old (new b.alphabet) s.products.entries.items keeps s.are_products)
