@@ -1,5 +1,5 @@
 mod Letters
-mod AddingMachine
+pub mod AddingMachine
 mod Swap
 mod PermutationFacts
 mod TermFacts

@@ -22,23 +22,31 @@ use Rattle.fr_ray.specs.Writing.{ray_text}
 use Rattle.fr_script.specs.declared.fault.LineFault.{LineFault}
 use Rattle.fr_plain.specs.Steps.{Step, Multiplied, IsRefused, AreEvaluated, AreStopped}
 use Rattle.fr_plain.specs.Answers.{Ending, says, fails, line_of, AnswersShow, AnswersStates, AnswersWreath, AnswersClass, AnswersEq, comparison_text, AnswersAct, IsShortImage, AnswersRay, power_steps, power, HasNoOrder, AnswersOrder, found, none, passed, refused}
+use Rattle.fr_plain.specs.Held.{AreAlikeSteps}
+use Rattle.fr_plain.proofs.HeldLaws.{alike_steps_same}
 use Rattle.fr_plain.proofs.StepLaws.{evaluated_once, stopped_once, evaluated_not_stopped, AreEvaluated-split}
 
--- two endings have one charge, and one text or fault
+-- two endings have one charge, and one text or fault, and make the same
 abbrev pub IsSameEnding : Ending → Ending → Type 0
-IsSameEnding e f = (e.charge ≡ f.charge) × (e.answer ≡ f.answer)
+IsSameEnding e f = (e.charge ≡ f.charge) × (e.answer ≡ f.answer) × AreAlikeSteps e.steps f.steps
 
 -- there are no two such endings
 abbrev pub EndsOnce : (Ending → Type 0) → Type 0
 EndsOnce Ends = (e f : Ending) → Ends e → Ends f → IsSameEnding e f
 
 said_once : (e f : Ending) (v w : List ℕ) → e ≡ says v → f ≡ says w → v ≡ w → IsSameEnding e f
-said_once e f v w a b h =
-    (ap (λ (x : Ending). x.charge) a ∙ sym (ap (λ (x : Ending). x.charge) b), ap (λ (x : Ending). x.answer) a ∙ ap (λ (u : List ℕ). (says u).answer) h ∙ sym (ap (λ (x : Ending). x.answer) b))
+said_once e f v w a b h = (
+  ap (λ (x : Ending). x.charge) a ∙ sym (ap (λ (x : Ending). x.charge) b),
+  ap (λ (x : Ending). x.answer) a ∙ ap (λ (u : List ℕ). (says u).answer) h ∙ sym (ap (λ (x : Ending). x.answer) b),
+  alike_steps_same e.steps f.steps (ap (λ (x : Ending). x.steps) a ∙ sym (ap (λ (x : Ending). x.steps) b)),
+)
 
 failed_once : (e f : Ending) (g : LineFault) → e ≡ fails g → f ≡ fails g → IsSameEnding e f
-failed_once e f g a b =
-    (ap (λ (x : Ending). x.charge) a ∙ sym (ap (λ (x : Ending). x.charge) b), ap (λ (x : Ending). x.answer) a ∙ sym (ap (λ (x : Ending). x.answer) b))
+failed_once e f g a b = (
+  ap (λ (x : Ending). x.charge) a ∙ sym (ap (λ (x : Ending). x.charge) b),
+  ap (λ (x : Ending). x.answer) a ∙ sym (ap (λ (x : Ending). x.answer) b),
+  alike_steps_same e.steps f.steps (ap (λ (x : Ending). x.steps) a ∙ sym (ap (λ (x : Ending). x.steps) b)),
+)
 
 pub shown_once : (d : ℕ) (t : Term) → EndsOnce (AnswersShow d t)
 shown_once d t e f a b = said_once e f _ _ a.ends b.ends (ap machine_text (canonical_same d t t a.states b.states a.canonical b.canonical (alike_refl t)))
@@ -129,21 +137,24 @@ stopped_power d t k n fault x r = record { next = Multiplied (power t k) t; rest
 
 pub ordered_once : (d : ℕ) (t : Term) (most : ℕ) → EndsOnce (AnswersOrder d t most)
 ordered_once d t most _ _ (found k n a b c x) (found l m a' b' c' y) =
-    let h : k ≡ l = omega (arith, order_least t k l b c', order_least t l k b' c) in
-    (evaluated_once d (power_steps t k) n m x (subst (λ j. AreEvaluated d (power_steps t j) m) (sym h) y), ap (λ j. Ok (line_of (decimal (suc j)))) h)
+    let h : k ≡ l = omega (arith, order_least t k l b c', order_least t l k b' c) in (
+      evaluated_once d (power_steps t k) n m x (subst (λ j. AreEvaluated d (power_steps t j) m) (sym h) y),
+      ap (λ j. Ok (line_of (decimal (suc j)))) h,
+      alike_steps_same (power_steps t k) (power_steps t l) (ap (power_steps t) h),
+    )
 ordered_once d t most _ _ (found k n a b c x) (none e) = absurd (omega (arith, a, e))
 ordered_once d t most _ _ (found k n a b c x) (passed l m e f y) = absurd (f k a c)
 ordered_once d t most _ _ (found k n a b c x) (refused l m fault h i y r) =
     absurd (not_stopped_before d t l k n m (power_steps t l) fault (order_least t (suc l) k i c) x (stopped_power d t l m fault y r))
 ordered_once d t most _ _ (none e) (found k n a b c x) = absurd (omega (arith, a, e))
-ordered_once d t most _ _ (none e) (none e') = (refl, refl)
+ordered_once d t most _ _ (none e) (none e') = (refl, refl, tt)
 ordered_once d t most _ _ (none e) (passed l m e' f y) = absurd (omega (arith, e, e'))
 ordered_once d t most _ _ (none e) (refused l m fault h i y r) = absurd (omega (arith, e, h))
 ordered_once d t most _ _ (passed l m e f y) (found k n a b c x) = absurd (f k a c)
 ordered_once d t most _ _ (passed l m e f y) (none e') = absurd (omega (arith, e, e'))
 ordered_once d t most _ _ (passed l m e f y) (passed k n e' f' x) =
     let h : l ≡ k = omega (arith, e, e') in
-    (evaluated_once d (power_steps t l) m n y (subst (λ j. AreEvaluated d (power_steps t j) n) (sym h) x), refl)
+    (evaluated_once d (power_steps t l) m n y (subst (λ j. AreEvaluated d (power_steps t j) n) (sym h) x), refl, alike_steps_same (power_steps t l) (power_steps t k) (ap (power_steps t) h))
 ordered_once d t most _ _ (passed k n e f x) (refused l m fault h i y r) =
     absurd (not_stopped_before d t l k n m (power_steps t l) fault (omega (arith, e, h)) x (stopped_power d t l m fault y r))
 ordered_once d t most _ _ (refused l m fault h i y r) (found k n a b c x) =
@@ -155,7 +166,7 @@ ordered_once d t most _ _ (refused k n fault h i x r) (refused l m fault' h' i' 
   | inl same ↦
       let s' = subst (λ j. AreStopped d (power_steps t (suc j)) (power_steps t j) m fault') (sym same) (stopped_power d t l m fault' y r') in
       let z = stopped_once d (power_steps t (suc k)) (power_steps t k) (power_steps t k) n m fault fault' (stopped_power d t k n fault x r) s' in
-      (z.1, ap (λ g. Err g) z.2)
+      (z.1, ap (λ g. Err g) z.2, alike_steps_same (power_steps t k) (power_steps t l) (ap (power_steps t) same))
   | inr o ↦ elim o [
     | inl b ↦ absurd (not_stopped_before d t k l m n (power_steps t k) fault b y (stopped_power d t k n fault x r))
     | inr b ↦ absurd (not_stopped_before d t l k n m (power_steps t l) fault' b x (stopped_power d t l m fault' y r'))

@@ -1,4 +1,5 @@
 pub mod StepLaws
+pub mod HeldLaws
 pub mod EndingLaws
 pub mod MemberLaws
 pub mod OutcomeLaws

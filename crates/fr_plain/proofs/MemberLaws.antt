@@ -1,5 +1,6 @@
 -- The members of a nucleus in order are one list of automata.
 use Rattle.std.proofs.Common.{ℕ, zero, suc, ◌≡◌, ◌<◌, ◌≤◌, ◌+◌, ◌⊎◌, inl, inr, List, [], ◌∷◌, Ok, length, get_or, map, refl, sym, ◌∙◌, ap, subst, arith}
+use Rattle.std.proofs.lemmas.Bool.{cases_order}
 use Rattle.std.proofs.lemmas.List.Elements.{All-from_get_or}
 use Rattle.std.proofs.lemmas.List.{get_or_default}
 use Rattle.fr_model.specs.Terms.{Term, One, IsAlike}
@@ -15,6 +16,7 @@ use Rattle.fr_model.proofs.CountLaws.{HasMoreThan-lt}
 use Rattle.fr_model.proofs.LimitLaws.{nucleus_depth_once}
 use Rattle.fr_plain.specs.Steps.{Listed, AreEvaluated}
 use Rattle.fr_plain.specs.Answers.{IsListedBefore, AreMembers, nucleus_text, AnswersNucleus, found, many_sections, passed}
+use Rattle.fr_plain.specs.Held.{AreAlikeSteps}
 use Rattle.fr_plain.proofs.EndingLaws.{EndsOnce}
 
 -- ---- the order of automata
@@ -118,17 +120,39 @@ not_passed : (d : ℕ) (Q : Term → Type 0) (ms : List Term) (ps : List (List S
 not_passed d Q ms ps a few more =
     omega (arith, few, HasMoreThan-lt One (IsNucleusMember d Q) IsAlike (λ v w h. alike_sym h) (λ u v w h k. alike_trans h k) 256 (length ms) more (members_count d Q ms ps a))
 
+-- members at one place act alike
+member_alike : (d : ℕ) (Q : Term → Type 0) (ms ns : List Term) (ps qs : List (List State)) → AreMembers d Q ms ps → AreMembers d Q ns qs → ps ≡ qs
+    → (k : ℕ) → k < length ms → IsAlike (get_or ms k One) (get_or ns k One)
+member_alike d Q ms ns ps qs a b e k l =
+    let w = b.whole (get_or ms k One) (a.member k l) in
+    let here : get_or qs k [] ≡ get_or qs w.0 [] = subst (λ (rs : List (List State)). get_or rs k [] ≡ get_or qs w.0 []) e (canonical_same d (get_or ms k One) (get_or ns w.0 One) (get_or ps k []) (get_or qs w.0 []) (a.canonical k l) (b.canonical w.0 w.1) w.2) in
+    let there : k < length ns = omega (arith, l, a.count, b.count, ap length e) in
+    elim (cases_order w.0 k) [
+      | inl same ↦ subst (λ j. IsAlike (get_or ms k One) (get_or ns j One)) same w.2
+      | inr o ↦ elim o [
+        | inl less ↦ absurd (listed_irrefl (get_or qs w.0 []) (subst (IsListedBefore (get_or qs w.0 [])) here (b.ordered w.0 k less there)))
+        | inr more ↦ absurd (listed_irrefl (get_or qs k []) (subst (IsListedBefore (get_or qs k [])) (sym here) (b.ordered k w.0 more w.1)))
+      ]
+    ]
+
+alike_members : (ms ns : List Term) → length ms ≡ length ns → ((k : ℕ) → k < length ms → IsAlike (get_or ms k One) (get_or ns k One)) → AreAlikeSteps (map Listed ms) (map Listed ns)
+alike_members [] [] e h = tt
+alike_members [] (n ∷ ns) e h = absurd (omega (arith, e))
+alike_members (m ∷ ms) [] e h = absurd (omega (arith, e))
+alike_members (m ∷ ms) (n ∷ ns) e h = (h 0 (omega arith), alike_members ms ns (omega (arith, e)) (λ k l. h (suc k) (omega (arith, l))))
+
 pub contracted_once : (d : ℕ) (gens : List Term) → EndsOnce (AnswersNucleus d gens)
 contracted_once d gens _ _ (found ms ps k n few a least depth x) (found ns qs l m few' b least' depth' y) =
     let e = automata_once d (IsGeneratorSection d gens) ms ns ps qs a b in (
       charge_is_sizes d ms ps n a.count a.canonical x ∙ ap sizes e ∙ sym (charge_is_sizes d ns qs m b.count b.canonical y),
       ap (λ r. Ok (nucleus_text r k)) e ∙ ap (λ j. Ok (nucleus_text qs j)) (nucleus_depth_once d (IsGeneratorSection d gens) k l depth depth'),
+      alike_members ms ns (omega (arith, a.count, b.count, ap length e)) (member_alike d (IsGeneratorSection d gens) ms ns ps qs a b e),
     )
 contracted_once d gens _ _ (found ms ps k n few a least depth x) (many_sections more) = absurd (few more)
 contracted_once d gens _ _ (found ms ps k n few a least depth x) (passed few' more) = absurd (not_passed d _ ms ps a least more)
 contracted_once d gens _ _ (many_sections more) (found ns qs l m few b least depth y) = absurd (few more)
-contracted_once d gens _ _ (many_sections more) (many_sections more') = (refl, refl)
+contracted_once d gens _ _ (many_sections more) (many_sections more') = (refl, refl, tt)
 contracted_once d gens _ _ (many_sections more) (passed few more') = absurd (few more)
 contracted_once d gens _ _ (passed few more) (found ns qs l m few' b least depth y) = absurd (not_passed d _ ns qs b least more)
 contracted_once d gens _ _ (passed few more) (many_sections more') = absurd (few more')
-contracted_once d gens _ _ (passed few more) (passed few' more') = (refl, refl)
+contracted_once d gens _ _ (passed few more) (passed few' more') = (refl, refl, tt)

@@ -7,6 +7,8 @@ use Rattle.fr_plain.specs.Scopes.{Scope}
 use Rattle.fr_plain.specs.Outcomes.{Outcome}
 use Rattle.fr_plain.specs.Plain.{AreOutcomes, text_of, charge_of, has_fault, IsPlain}
 use Rattle.fr_plain.specs.Beginnings.{ReachesCharge, PassesCharge}
+use Rattle.fr_plain.specs.Held.{steps_of, HoldsClasses, HasCensus, AreAlikeSteps}
+use Rattle.fr_plain.proofs.HeldLaws.{alike_steps_same, alike_steps_append, holds_once}
 use Rattle.fr_plain.proofs.OutcomeLaws.{outcome_once}
 use Rattle.fr_plain.proofs.BeginningLaws.{reaches_le, whole_reaches}
 
@@ -49,3 +51,19 @@ whole_passes bytes text refused n limit a h = record {
   reaches = whole_reaches a.script.alphabet [] a.script.items a.outcomes a.evaluates;
   passes = omega (arith, h, a.charge_is);
 }
+
+-- ---- what a script holds
+outcomes_alike : (d : ℕ) (scope : Scope) (items : List Item) (os ps : List Outcome) → AreOutcomes d scope items os → AreOutcomes d scope items ps → AreAlikeSteps (steps_of os) (steps_of ps)
+outcomes_alike d scope [] os ps x y = alike_steps_same (steps_of os) (steps_of ps) (ap steps_of (x ∙ sym y))
+outcomes_alike d scope (item ∷ items) [] ps x y = absurd x
+outcomes_alike d scope (item ∷ items) (o ∷ os) [] x y = absurd y
+outcomes_alike d scope (item ∷ items) (o ∷ os) (p ∷ ps) x y =
+    let h = outcome_once d scope item o p x.0 y.0 in
+    alike_steps_append o.steps p.steps (steps_of os) (steps_of ps) h.steps (outcomes_alike d o.scope items os ps x.1 (subst (λ (c : Scope). AreOutcomes d c items ps) (sym h.scope) y.1))
+
+pub census_once : (bytes : List ℕ) (m n : ℕ) → HasCensus bytes m → HasCensus bytes n → m ≡ n
+census_once bytes m n a b =
+    let e : a.script ≡ b.script = one_script bytes a.script b.script a.reads b.reads in
+    let evaluates = subst (λ (s : Script). AreOutcomes s.alphabet [] s.items b.outcomes) (sym e) b.evaluates in
+    let holds = subst (λ (s : Script). HoldsClasses s.alphabet (steps_of b.outcomes) n) (sym e) b.holds in
+    holds_once a.script.alphabet (steps_of a.outcomes) (steps_of b.outcomes) m n (outcomes_alike a.script.alphabet [] a.script.items a.outcomes b.outcomes a.evaluates evaluates) a.holds holds

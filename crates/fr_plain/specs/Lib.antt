@@ -6,5 +6,6 @@ pub mod Expansions
 pub mod Answers
 pub mod Outcomes
 pub mod Plain
+pub mod Held
 pub mod Beginnings
 pub mod LawsOfPlain

@@ -3,4 +3,4 @@
 
 mod laws;
 
-pub use laws::{outcomes_are_determined, plain_is_determined};
+pub use laws::{held_is_determined, outcomes_are_determined, plain_is_determined};

@@ -7,3 +7,4 @@ mod ConjugateFacts
 mod IdentityFacts
 mod QuestionFacts
 mod DefinitionFacts
+mod HeldFacts

@@ -3,3 +3,4 @@ pub mod Powers
 pub mod Conjugates
 pub mod Questions
 pub mod Definitions
+pub mod Held

@@ -9,6 +9,7 @@ ghost use Rattle.fr_plain_examples.specs.Powers.{FifthPowerBySquaring, ZerothPow
 ghost use Rattle.fr_plain_examples.specs.Conjugates.{ConjugateIsByTheSecond, CommutatorBeginsWithInverses};
 ghost use Rattle.fr_plain_examples.specs.Questions.{ProductOfOnesIsCharged, OrderOfOne, UnknownNameAfterProduct, NucleusOfOne};
 ghost use Rattle.fr_plain_examples.specs.Definitions.{BlockIsSystem, NameStandsTwice, NameIsBoundTwice};
+ghost use Rattle.fr_plain_examples.specs.Held.{AddingMachineHoldsTwo, NoStepHoldsNone};
 
 /// The steps, elements and charges of powers, with wrong ones refuted.
 pub fn powers_are_expanded()
@@ -36,4 +37,10 @@ pub fn names_are_bound()
     ensures block { BlockIsSystem }
     ensures twice_in_block { NameStandsTwice }
     ensures bound_twice { NameIsBoundTwice }
+{}
+
+/// How many elements steps hold, up to acting alike, with wrong numbers refuted.
+pub fn steps_hold_classes()
+    ensures adding { AddingMachineHoldsTwo }
+    ensures none { NoStepHoldsNone }
 {}
