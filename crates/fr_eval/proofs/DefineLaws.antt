@@ -1,6 +1,6 @@
 -- What a definition leaves: the names below its line, and how it ends.
-use Rattle.std.proofs.Common.{ℕ, suc, ◌≡◌, ◌<◌, ◌+◌, Bool, true, false, if◌then◌else◌, nat_lt, List, [], ◌∷◌, ◌++◌, length, get_or, Option, Some, None, Result, Ok, Err, OnOk, IfOk, refl, sym, ◌∙◌, ap, subst, arith, append_assoc}
-use Rattle.std.specs.Prelude.{IfSome, IfErr}
+use Rattle.std.proofs.Common.{ℕ, suc, ◌≡◌, ◌<◌, ◌+◌, Bool, true, false, if◌then◌else◌, nat_lt, List, [], ◌∷◌, ◌++◌, length, get_or, Option, Some, None, Result, Ok, Err, OnOk, OnErr, IfOk, refl, sym, ◌∙◌, ap, subst, arith, append_assoc}
+use Rattle.std.specs.Prelude.{IfErr}
 use Rattle.std.specs.Str.{bytes_eq}
 use Rattle.std.specs.List.{All}
 use Rattle.std.proofs.lemmas.Bool.{lt-ltb}
@@ -30,7 +30,7 @@ use Rattle.fr_plain.proofs.StepLaws.{AreEvaluated-append}
 use Rattle.fr_expr.specs.declared.env.Binding.{Binding}
 use Rattle.fr_expr.specs.declared.fault.EvalFault.{EvalFault}
 use Rattle.fr_expr.specs.declared.fault.EvalFault.TheVariants as e
-use Rattle.fr_expr.specs.Names.{Names, either, above, Matches, AreNames, AreBound}
+use Rattle.fr_expr.specs.Names.{Names, either, above, Matches, AreNames}
 use Rattle.fr_expr.specs.Tables.{bindings_of}
 use Rattle.fr_expr.specs.Evaluation.{Makes, StopsAt, StopsFull, StopsEarly, Evaluates}
 use Rattle.fr_expr.proofs.EvaluationLaws.{Makes-none, Reads-none}
@@ -39,8 +39,9 @@ use Rattle.fr_eval.specs.declared.ends.LineEnd.{LineEnd}
 use Rattle.fr_eval.specs.declared.ends.LineEnd.TheVariants as l
 use Rattle.fr_eval.specs.declared.ends.Stop.{Stop}
 use Rattle.fr_eval.specs.declared.ends.Stop.TheVariants as s
-use Rattle.fr_eval.specs.Bindings.{AreAllKnown, AreAbove, AddsAt, SameNames}
-use Rattle.fr_eval.specs.Telling.{IsEnd, FindsFull, EndsEarly, Stops, Leaves, Defines}
+use Rattle.fr_eval.specs.Bindings.{AreAllKnown, AreAbove, AddsAt, Binds, SameNames, terms_from}
+use Rattle.fr_eval.specs.Generators.{StandForAll}
+use Rattle.fr_eval.specs.Telling.{IsEnd, IsFine, FindsFull, EndsEarly, Stops, Leaves, Defines}
 use Rattle.fr_eval.proofs.BlockLaws.{length-system}
 use Rattle.fr_eval.specs.Entering.{AreHandlesFrom, AreEntered, EntersNames, EndsWith}
 
@@ -151,6 +152,40 @@ adds_name line n h old new more = λ q. ((if bytes_eq n q then record { line = l
 pub adds_none : (line : ℕ) (old new : Names) → SameNames old new → AddsAt line old new
 adds_none line old new same = λ q. ([], same q ∙ sym (append-nil (old q)), All-nil (λ (b : Binding). b.line ≡ line))
 
+-- the handles of the names of a block
+handles_stand : (d : ℕ) (known : ℕ → Option (List ℕ)) (system : System) (k : ℕ) (ns : List (List ℕ)) (hs : List Handle) → length hs ≡ length ns → AreHandlesFrom d known system k hs
+    → StandForAll d known hs (terms_from system k ns)
+handles_stand d known system k [] [] same a = tt
+handles_stand d known system k [] (h ∷ hs) same a = absurd (omega (arith, same))
+handles_stand d known system k (n ∷ ns) [] same a = absurd (omega (arith, same))
+handles_stand d known system k (n ∷ ns) (h ∷ hs) same a = (a.0, handles_stand d known system (suc k) ns hs (omega (arith, same)) a.1)
+
+pub binds_block : (d : ℕ) (known : ℕ → Option (List ℕ)) (line : ℕ) (scope : Scope) (rs : List Recursion) (old new : Names) (hs : List Handle) → length hs ≡ length (names_of rs) → AreHandlesFrom d known (block_system rs) 0 hs
+    → ((q : List ℕ) → new q ≡ old q ++ bindings_of line (names_of rs) hs q) → Binds d known line scope (st.Group rs) old new
+binds_block d known line scope rs old new hs same a more = record { handles = hs; elements = handles_stand d known (block_system rs) 0 (names_of rs) hs same a; added = more }
+
+pub binds_name : (d : ℕ) (known : ℕ → Option (List ℕ)) (line : ℕ) (scope : Scope) (n : List ℕ) (x : Expr) (old new : Names) (h : Handle) → StandsForTerm d known h (expansion scope x).value
+    → ((q : List ℕ) → new q ≡ old q ++ (if bytes_eq n q then record { line = line; handle = h } ∷ [] else [])) → Binds d known line scope (st.Let n x) old new
+binds_name d known line scope n x old new h stands more = record { handles = h ∷ []; elements = (stands, tt); added = more }
+
+pub binds_none : (d : ℕ) (known : ℕ → Option (List ℕ)) (line a : ℕ) (scope : Scope) (names : Names) → Binds d known line scope (st.Alphabet a) names names
+binds_none d known line a scope names = record { handles = []; elements = tt; added = λ q. sym (append-nil (names q)) }
+
+-- a line with a fault is not fine
+abbrev IsFineEnd : Result LineEnd Stop → Type 0
+IsFineEnd (Ok l.Fine) = Unit {0}
+IsFineEnd _ = ⊥
+
+pub ends_not_fine : (line : ℕ) (fault : EvalFault) (text text' : List ℕ) (result : Result LineEnd Stop) → EndsWith line fault text text' result → IsFine result → ⊥
+ends_not_fine line (e.Refused fault) text text' (Ok end) w f = subst (λ (x : LineEnd). IsFineEnd (Ok x)) w.0 (subst IsFineEnd (sym f) tt)
+ends_not_fine line (e.Refused fault) text text' (Err stop) w f = subst IsFineEnd (sym f) tt
+ends_not_fine line (e.Full claimed asked) text text' result w f = subst IsFineEnd (sym f ∙ w.0) tt
+ends_not_fine line e.NoMemory text text' result w f = subst IsFineEnd (sym f ∙ w.0) tt
+
+pub refuses_not_fine : (fault : LineFault) (result : Result LineEnd Stop) → IfOk result (λ end. end ≡ l.Refused fault) → IsFine result → ⊥
+refuses_not_fine fault (Ok end) e f = subst (λ (x : LineEnd). IsFineEnd (Ok x)) e (subst IsFineEnd (sym f) tt)
+refuses_not_fine fault (Err stop) e f = subst IsFineEnd (sym f) tt
+
 -- ---- handles that are bound
 known_keep : (old new : ℕ → Option (List ℕ)) (bs : List Binding) → Keeps old new → All (λ b. IsKnown old b.handle) bs → All (λ b. IsKnown new b.handle) bs
 known_keep old new bs k a = All-weaker (λ (b : Binding). IsKnown old b.handle) (λ (b : Binding). IsKnown new b.handle) (λ b i. IsKnown-keeps old new b.handle k i) bs a
@@ -258,11 +293,11 @@ module _ {S : Type 0} (view : View S) where
       leaves_refused d line line scope (st.Let name x) old new before after v.done fault names text text' end v.makes
       (o.stopped v.done v.makes.charge fault (stopped_here d old new before after (expansion scope x).steps fault v)) w.0 w.1 n
   name_ends d line scope name x old new before after names text text' (e.Refused fault) (Err stop) v w n =
-      subst (λ (k : Stop). Stops view d scope (st.Let name x) old new before after text text' k) (sym w) (stopped_early d scope (st.Let name x) old new before after (expansion scope x).steps fault refl v)
+      subst (λ (k : Stop). Stops view d scope (st.Let name x) old new before after text text' k) (sym w.0) (stopped_early d scope (st.Let name x) old new before after (expansion scope x).steps fault refl v, w.1)
   name_ends d line scope name x old new before after names text text' (e.Full claimed asked) result v w n =
       subst (Defines view d line scope (st.Let name x) old new before after names text text') (sym w.0) (finds_full d scope (st.Let name x) old new before after (expansion scope x).steps claimed asked refl v, w.1)
   name_ends d line scope name x old new before after names text text' e.NoMemory result v w n =
-      subst (Defines view d line scope (st.Let name x) old new before after names text text') (sym w) (ends_early d scope (st.Let name x) old new before after (expansion scope x).steps refl v)
+      subst (Defines view d line scope (st.Let name x) old new before after names text text') (sym w.0) (ends_early d scope (st.Let name x) old new before after (expansion scope x).steps refl v, w.1)
 
   -- a name that is bound
   pub name_binds : (d line : ℕ) (scope : Scope) (name : List ℕ) (x : Expr) (old new : S) (before after : ℕ) (names : Names) (text : List ℕ) (h : Handle)
@@ -299,11 +334,11 @@ module _ {S : Type 0} (view : View S) where
       leaves_refused d line (line_at rs (length hs)) scope (st.Group rs) old new before after stops.done fault names text text' end stops.makes
       (subst (λ (f : Option Fault). DefinesGroup d scope rs f (refuse scope stops.done stops.makes.charge (record { line = line_at rs (length hs); kind = fault }))) (sym none) here) w.0 w.1 n
   group_ends d line scope rs old new before after names text text' hs (e.Refused fault) (Err stop) none v w n =
-      subst (λ (k : Stop). Stops view d scope (st.Group rs) old new before after text text' k) (sym w) (stopped_early d scope (st.Group rs) old new before after _ fault (group_steps scope rs none) v.stops)
+      subst (λ (k : Stop). Stops view d scope (st.Group rs) old new before after text text' k) (sym w.0) (stopped_early d scope (st.Group rs) old new before after _ fault (group_steps scope rs none) v.stops, w.1)
   group_ends d line scope rs old new before after names text text' hs (e.Full claimed asked) result none v w n =
       subst (Defines view d line scope (st.Group rs) old new before after names text text') (sym w.0) (finds_full d scope (st.Group rs) old new before after _ claimed asked (group_steps scope rs none) v, w.1)
   group_ends d line scope rs old new before after names text text' hs e.NoMemory result none v w n =
-      subst (Defines view d line scope (st.Group rs) old new before after names text text') (sym w) (ends_early d scope (st.Group rs) old new before after _ (group_steps scope rs none) v)
+      subst (Defines view d line scope (st.Group rs) old new before after names text text') (sym w.0) (ends_early d scope (st.Group rs) old new before after _ (group_steps scope rs none) v, w.1)
 
   -- a block that is bound
   pub group_binds : (d line : ℕ) (scope : Scope) (rs : List Recursion) (old new : S) (before after : ℕ) (names : Names) (text : List ℕ) (hs : List Handle)
@@ -367,8 +402,8 @@ module _ {S : Type 0} (view : View S) (self : (s : S) → view.kin s s) (onward 
   }
 
   pub group_faulty : (d line : ℕ) (scope : Scope) (rs : List Recursion) (z : S) (x : ℕ) (names : Names) (text text' : List ℕ) (fault : Fault) (result : Result LineEnd Stop) → names_fault rs ≡ Some fault
-      → OnOk result (text' ≡ text ++ fault_text fault) → IfOk result (λ end. end ≡ l.Refused fault.kind) → IfErr result (λ stop. stop ≡ s.NoMemory) → AreNames d (view.known z) names (suc line) scope
+      → OnOk result (text' ≡ text ++ fault_text fault) → OnErr result (text' ≡ text) → IfOk result (λ end. end ≡ l.Refused fault.kind) → IfErr result (λ stop. stop ≡ s.NoMemory) → AreNames d (view.known z) names (suc line) scope
       → Defines view d line scope (st.Group rs) z z x x names text text' result
-  group_faulty d line scope rs z x names text text' fault (Ok end) some t e stops n = group_refused d line scope rs z x names text text' fault end some e t n
-  group_faulty d line scope rs z x names text text' fault (Err stop) some t e stops n =
-      subst (λ (k : Stop). Stops view d scope (st.Group rs) z z x x text text' k) (sym stops) (none_early d scope (st.Group rs) z x)
+  group_faulty d line scope rs z x names text text' fault (Ok end) some t kept e stops n = group_refused d line scope rs z x names text text' fault end some e t n
+  group_faulty d line scope rs z x names text text' fault (Err stop) some t kept e stops n =
+      subst (λ (k : Stop). Stops view d scope (st.Group rs) z z x x text text' k) (sym stops) (none_early d scope (st.Group rs) z x, kept)

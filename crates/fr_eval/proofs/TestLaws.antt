@@ -1,5 +1,5 @@
 -- What the tests of statements rest on: what asks, and what two items of a script are.
-use Rattle.std.proofs.Common.{ℕ, ◌≡◌, ◌≢◌, ◌+◌, ◌<◌, ◌≤◌, List, [], ◌∷◌, ◌++◌, length, get_or, Option, refl, sym, subst, arith}
+use Rattle.std.proofs.Common.{ℕ, ◌≡◌, ◌≢◌, ◌<◌, ◌≤◌, List, [], ◌∷◌, length, get_or, Option, refl, sym, subst, arith}
 use Rattle.std.proofs.lemmas.List.Elements.{All-nil, All-append, All-weaker}
 use Rattle.std.specs.List.{All}
 use Rattle.sqlite_items.specs.declared.items.Items.{Items}
@@ -9,7 +9,7 @@ use Rattle.fr_syntax.specs.declared.statement.Statement.{Statement}
 use Rattle.fr_syntax.specs.declared.statement.Statement.TheVariants as st
 use Rattle.fr_syntax.specs.declared.tree.Expr.{Expr}
 use Rattle.fr_script.specs.declared.item.Item.{Item}
-use Rattle.fr_script.specs.Fits.{FitsItem, FitsItems}
+use Rattle.fr_script.specs.Fits.{FitsItems}
 use Rattle.fr_store.specs.Store.{IsKnown}
 use Rattle.fr_plain.specs.Beginnings.{IsAsk}
 use Rattle.fr_expr.specs.declared.env.Binding.{Binding}

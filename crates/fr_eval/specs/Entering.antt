@@ -48,9 +48,9 @@ EntersNames view d system old new before after handles (Err (e.Full claimed aske
 EntersNames view d system old new before after handles (Err e.NoMemory) = StopsEarly view d old new before after (name_steps system (length system))
 
 -- how a line ends with a fault of its evaluation that stands at a line: the fault of a step is printed, unless memory runs
--- out, and where the store is full nothing is
+-- out; else nothing is
 abbrev pub EndsWith : ℕ → EvalFault → List ℕ → List ℕ → Result LineEnd Stop → Type 0
 EndsWith line (e.Refused fault) text text' (Ok end) = (end ≡ l.Refused fault) × (text' ≡ text ++ fault_text (record { line = line; kind = fault }))
-EndsWith line (e.Refused fault) text text' (Err stop) = stop ≡ s.NoMemory
+EndsWith line (e.Refused fault) text text' (Err stop) = (stop ≡ s.NoMemory) × (text' ≡ text)
 EndsWith line (e.Full claimed asked) text text' result = (result ≡ Err (s.Full claimed asked)) × (text' ≡ text)
-EndsWith line e.NoMemory text text' result = result ≡ Err s.NoMemory
+EndsWith line e.NoMemory text text' result = (result ≡ Err s.NoMemory) × (text' ≡ text)

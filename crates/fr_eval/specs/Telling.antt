@@ -50,10 +50,10 @@ pub record EndsEarly {S : Type 0} (view : View S) (d : ℕ) (scope : Scope) (sta
   pub first : AreFirstSteps d scope statement done charge
   pub makes : Makes view d old new before after done
 
--- why the evaluation of a statement stopped; nothing is appended where the store is full
+-- why the evaluation of a statement stopped; nothing is appended then
 abbrev pub Stops : {S : Type 0} → View S → ℕ → Scope → Statement → S → S → ℕ → ℕ → List ℕ → List ℕ → Stop → Type 0
 Stops view d scope statement old new before after text text' (Full claimed asked) = FindsFull view d scope statement old new before after claimed asked × (text' ≡ text)
-Stops view d scope statement old new before after text text' NoMemory = EndsEarly view d scope statement old new before after
+Stops view d scope statement old new before after text text' NoMemory = EndsEarly view d scope statement old new before after × (text' ≡ text)
 
 -- how a statement that asks is answered
 abbrev pub Answers : {S : Type 0} → View S → ℕ → ℕ → Scope → Statement → S → S → ℕ → ℕ → List ℕ → List ℕ → Result LineEnd Stop → Type 0

@@ -15,11 +15,11 @@ ghost use Rattle.fr_eval.specs.Telling.{Answers};
 ghost use Rattle.fr_eval.specs.Concluding.{Answered, IsOfMore, EvaluatesAll};
 
 use crate::ends::{LineEnd, Stop};
+use crate::finish::{append, end_with};
 use crate::nucleus::nucleus_of;
 use crate::order::order;
 use crate::texts::{compare, growth, image, ray_image, show, states, wreath};
 use fr_expr::{Env, EvalFault, eval};
-use fr_script::{Fault, print_fault};
 use fr_store::{Handle, Store};
 use fr_syntax::{Expr, Statement};
 use std::alloc::Global;
@@ -30,7 +30,7 @@ use std::alloc::Global;
 /// charge is added to `charge`.
 ///
 /// Errors: `Full` where the first step that was not finished has an element that the store does not know and has no room
-/// for; then nothing is appended. `NoMemory`; then some first part of the answer may be appended.
+/// for; `NoMemory`. After either nothing is appended.
 pub fn ask<S: Store>(
     alloc: Global,
     store: &mut S,
@@ -51,18 +51,17 @@ pub fn ask<S: Store>(
     ensures continues { Continues S.view store.old store.new }
     ensures most { charge.new ≤ charge.old + 2 ^ 57 }
 {
-    match answer(alloc, store, env, line, statement, out, charge) {
-        Ok(()) => Ok(LineEnd::Fine),
-        Err(EvalFault::Refused(kind)) => {
-            print_fault(&Fault { line, kind }, out)?;
-            Ok(LineEnd::Refused(kind))
+    let mut text = Vec::new(alloc);
+    match answer(alloc, store, env, line, statement, &mut text, charge) {
+        Ok(()) => {
+            append(text, out)?;
+            Ok(LineEnd::Fine)
         }
-        Err(EvalFault::Full { before, asked }) => Err(Stop::Full { before, asked }),
-        Err(EvalFault::NoMemory) => Err(Stop::NoMemory),
+        Err(fault) => end_with(line, fault, out),
     }
 }
 
-// The answer of a statement, whose fault is not printed yet.
+// The answer of a statement, whose fault is not printed yet. Where memory runs out, a part of it may stand there.
 fn answer<S: Store>(
     alloc: Global,
     store: &mut S,

@@ -1,39 +1,35 @@
 //! Definitions: names for elements.
 
-ghost use Rattle.std.specs.Prelude.{◌≡◌, ◌+◌, ◌++◌, ◌⊎◌, ◌≤◌, ◌^◌, OnOk, IfOk, IfErr};
+ghost use Rattle.std.specs.Prelude.{◌+◌, ◌⊎◌, ◌≤◌, ◌^◌};
 ghost use Rattle.fr_syntax.specs.Fits.{FitsExpr, FitsRecursions, FitsStatement};
 ghost use Rattle.fr_syntax.specs.Sizes.{expr_size, statement_size};
 ghost use Rattle.fr_syntax.specs.declared.statement.Statement.TheVariants as st;
-ghost use Rattle.fr_script.specs.FaultTexts.{fault_text};
 ghost use Rattle.fr_store.specs.Store.{Keeps, Continues};
 ghost use Rattle.fr_plain.specs.Scopes.{Scope};
 ghost use Rattle.fr_plain.specs.Beginnings.{IsAsk};
 ghost use Rattle.fr_expr.specs.Names.{AreNames};
 ghost use Rattle.fr_expr.specs.Tables.{names_in};
-ghost use Rattle.fr_eval.specs.Bindings.{AreAllKnown, AreAbove, AddsAt, SameNames};
-ghost use Rattle.fr_eval.specs.Entering.{EndsWith};
+ghost use Rattle.fr_eval.specs.Bindings.{AreAllKnown, AreAbove, AddsAt, Binds, SameNames};
 ghost use Rattle.fr_eval.specs.Telling.{Defines, IsFine};
-ghost use Rattle.fr_eval.specs.declared.ends.LineEnd.TheVariants as end;
-ghost use Rattle.fr_eval.specs.declared.ends.Stop.TheVariants as stop;
 
 use crate::block::block_of;
 use crate::ends::{LineEnd, Stop};
 use crate::entering::enter_names;
+use crate::finish::{end_with, refuse};
 use crate::names::checked_places;
 use fr_block::Elements;
-use fr_expr::{Env, EvalFault, eval};
-use fr_script::{Fault, print_fault};
+use fr_expr::{Env, eval};
 use fr_store::Store;
 use fr_syntax::{Expr, Recursion, Statement};
 use std::alloc::Global;
 
-/// Evaluates a definition that stands at a line, from 1, below all that is bound: `alphabet`, `group` or `let`. The names
-/// that it defines are bound at the line, or the fault of the line is appended to `out` and nothing is bound.
+/// Evaluates a definition that stands at a line, from 1, below all that is bound: `alphabet`, `group` or `let`. Each name
+/// that it defines is bound once, at the line, or the fault of the line is appended to `out` and nothing is bound.
 ///
 /// Each element that is made is entered in the store, and its charge is added to `charge`.
 ///
 /// Errors: `Full` where the first step that was not finished has an element that the store does not know and has no room
-/// for; `NoMemory`. After either nothing is bound.
+/// for; `NoMemory`. After either nothing is bound, and nothing appended.
 pub fn define<S: Store>(
     alloc: Global,
     store: &mut S,
@@ -52,6 +48,8 @@ pub fn define<S: Store>(
     requires charge { charge.old ≤ 2 ^ 62 }
     ensures defines { (scope : Scope) → AreNames (S.view.alphabet store.old) (S.view.known store.old) (names_in env.old) line scope
         → Defines S.view (S.view.alphabet store.old) line scope statement.now store.old store.new charge.old charge.new (names_in env.new) out.old.items out.new.items result }
+    ensures binds { (scope : Scope) → AreNames (S.view.alphabet store.old) (S.view.known store.old) (names_in env.old) line scope → IsFine result
+        → Binds (S.view.alphabet store.old) (S.view.known store.new) line scope statement.now (names_in env.old) (names_in env.new) }
     ensures adds { AddsAt line (names_in env.old) (names_in env.new) }
     ensures bound { IsFine result ⊎ SameNames (names_in env.old) (names_in env.new) }
     ensures known { AreAllKnown (S.view.known store.new) (names_in env.new) }
@@ -89,6 +87,8 @@ fn define_name<S: Store>(
     requires charge { charge.old ≤ 2 ^ 62 }
     ensures defines { (scope : Scope) → AreNames (S.view.alphabet store.old) (S.view.known store.old) (names_in env.old) line scope
         → Defines S.view (S.view.alphabet store.old) line scope (st.Let name.now e.now) store.old store.new charge.old charge.new (names_in env.new) out.old.items out.new.items result }
+    ensures binds { (scope : Scope) → AreNames (S.view.alphabet store.old) (S.view.known store.old) (names_in env.old) line scope → IsFine result
+        → Binds (S.view.alphabet store.old) (S.view.known store.new) line scope (st.Let name.now e.now) (names_in env.old) (names_in env.new) }
     ensures adds { AddsAt line (names_in env.old) (names_in env.new) }
     ensures bound { IsFine result ⊎ SameNames (names_in env.old) (names_in env.new) }
     ensures known { AreAllKnown (S.view.known store.new) (names_in env.new) }
@@ -122,6 +122,8 @@ fn define_group<S: Store>(
     requires charge { charge.old ≤ 2 ^ 62 }
     ensures defines { (scope : Scope) → AreNames (S.view.alphabet store.old) (S.view.known store.old) (names_in env.old) line scope
         → Defines S.view (S.view.alphabet store.old) line scope (st.Group block.now) store.old store.new charge.old charge.new (names_in env.new) out.old.items out.new.items result }
+    ensures binds { (scope : Scope) → AreNames (S.view.alphabet store.old) (S.view.known store.old) (names_in env.old) line scope → IsFine result
+        → Binds (S.view.alphabet store.old) (S.view.known store.new) line scope (st.Group block.now) (names_in env.old) (names_in env.new) }
     ensures adds { AddsAt line (names_in env.old) (names_in env.new) }
     ensures bound { IsFine result ⊎ SameNames (names_in env.old) (names_in env.new) }
     ensures known { AreAllKnown (S.view.known store.new) (names_in env.new) }
@@ -142,25 +144,4 @@ fn define_group<S: Store>(
         }
         Err(fault) => end_with(block[handles.len()].line, fault, out),
     }
-}
-
-// Ends a line with a fault of its evaluation, which stands at a line.
-fn end_with(line: u32, fault: EvalFault, out: &mut Vec<u8>) -> Result<LineEnd, Stop>
-    ensures { EndsWith line fault out.old.items out.new.items result }
-{
-    match fault {
-        EvalFault::Refused(kind) => refuse(Fault { line, kind }, out),
-        EvalFault::Full { before, asked } => Err(Stop::Full { before, asked }),
-        EvalFault::NoMemory => Err(Stop::NoMemory),
-    }
-}
-
-// Appends a fault, which ends its line.
-fn refuse(fault: Fault, out: &mut Vec<u8>) -> Result<LineEnd, Stop>
-    ensures text { OnOk result (out.new.items ≡ out.old.items ++ fault_text fault) }
-    ensures ends { IfOk result (λ e. e ≡ end.Refused fault.kind) }
-    ensures stops { IfErr result (λ s. s ≡ stop.NoMemory) }
-{
-    print_fault(&fault, out)?;
-    Ok(LineEnd::Refused(fault.kind))
 }

@@ -6,6 +6,7 @@ mod block;
 mod definitions;
 mod ends;
 mod entering;
+mod finish;
 mod names;
 mod nucleus;
 mod order;

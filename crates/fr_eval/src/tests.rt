@@ -64,15 +64,14 @@ fn tell<S: Store>(
     ensures continues { Continues S.view store.old store.new }
     ensures most { charge.new ≤ charge.old + 2 ^ 57 }
 {
-    match &item.body {
-        Body::Faulty(fault) => {
-            print_fault(fault, text)?;
-        }
+    let told = item.body.read(alloc)?;
+    match told.body() {
+        Body::Faulty(fault) => Ok(print_fault(fault, text)?),
         Body::Says(statement) => {
             let _end = tell_statement(alloc, store, env, item.line, statement, text, charge)?;
+            Ok(())
         }
     }
-    Ok(())
 }
 
 // The texts of a script of two items, over a store of so many rows.
