@@ -23,7 +23,7 @@ use Rattle.fr_eval.specs.declared.ends.Stop.{Stop}
 use Rattle.fr_eval.specs.declared.ends.Stop.TheVariants as s
 use Rattle.fr_eval.specs.Bindings.{AreAbove}
 use Rattle.fr_eval.specs.Telling.{Answers, Defines}
-use Rattle.fr_eval.proofs.DefineLaws.{names_stay, makes_none}
+use Rattle.fr_eval.proofs.DefineLaws.{names_stay, makes_none, none_early}
 use Rattle.fr_session.specs.declared.session.Reply.{Reply}
 use Rattle.fr_session.specs.Faults.{of_stop}
 use Rattle.fr_session.specs.Feeding.{Replies, MakesFirst, Feeds}
@@ -70,9 +70,14 @@ module _ {S : Type 0} (view : View S) where
             let y = subst (λ (k : Body). IsBody item.line d scope k o) says x in
             omega (arith, v.makes.own, v.charged, first_charge item.line d scope statement o _ v.charge y v.first);
       }
-  said_stops d scope item statement old new charged names text text' s.NoMemory says h = subst (λ (k : Body). MakesFirst view d scope k old new) (sym says) (charged, h)
+  said_stops d scope item statement old new charged names text text' s.NoMemory says h = subst (λ (k : Body). MakesFirst view d scope k old new) (sym says) (charged, h.0)
 
 module _ {S : Type 0} (view : View S) (self : (s : S) → view.kin s s) (onward : (s t u : S) → view.kin s t → view.kin t u → view.kin s u) where
+  -- nothing was made where an item is not read
+  pub unread_stops : (d : ℕ) (scope : Scope) (body : Body) (store : S) → MakesFirst view d scope body store store
+  unread_stops d scope (b.Says statement) store = (0, none_early view self onward d scope statement store 0)
+  unread_stops d scope (b.Faulty fault) store = refl
+
   -- a fault of reading is printed
   pub faulty_replies : (d : ℕ) (scope : Scope) (item : Item) (fault : Fault) (store : S) (names : Names) (reply : Reply) → item.body ≡ b.Faulty fault → AreAbove item.line names
       → AreNames d (view.known store) names item.line scope → reply.text.items ≡ fault_text fault → reply.charge ≡ 0 → reply.refused ≡ true → Replies view d scope item store store names reply

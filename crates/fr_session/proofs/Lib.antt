@@ -1,2 +1,3 @@
 pub mod FeedLaws
 pub mod NameLaws
+pub mod HeldLaws

@@ -1,2 +1,3 @@
 pub mod Faults
 pub mod Feeding
+pub mod Held

@@ -2,8 +2,12 @@
 #![tactic(auto)]
 
 mod fault;
+mod laws;
 mod session;
 mod statement;
+#[cfg(test)]
+mod tests;
 
 pub use fault::SessionFault;
+pub use laws::handles_count_held;
 pub use session::{Reply, Session};

@@ -69,8 +69,9 @@ impl<S: Store> Session<S> {
         ensures continues { Continues S.view self.old.store self.new.store }
         ensures most { IfOk result (λ r. r.charge ≤ 2 ^ 57) }
     {
+        let told = item.body.read(self.alloc)?;
         let mut text = Vec::new(self.alloc);
-        match &item.body {
+        match told.body() {
             Body::Faulty(fault) => {
                 print_fault(fault, &mut text)?;
                 Ok(Reply {
