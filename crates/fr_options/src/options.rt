@@ -7,6 +7,7 @@ ghost use Rattle.fr_options.specs.declared.options.WordsFault.TheVariants as fau
 
 use crate::number::read_number;
 use clap::error::ErrorKind;
+use clap::parser::ValueSource;
 use clap::{Arg, ArgAction, ArgMatches, Command};
 use std::alloc::{AllocError, Global};
 
@@ -22,6 +23,10 @@ pub struct Options {
     pub grain: u16,
     /// The most that the script may be charged, from 1 to 1,048,576; 262,144 where no word says it.
     pub states: u32,
+    /// Whether the count of what the store holds is asked for.
+    pub census: bool,
+    /// The seed of the demonstration, where one is asked for.
+    pub demo: Option<u32>,
 }
 
 /// Why words are not read.
@@ -44,8 +49,8 @@ impl From<AllocError> for WordsFault {
     }
 }
 
-/// The options that words give, which stand after the program's name: `--workers W`, `--grain K` and `--states N`, each at
-/// most once and in any order.
+/// The options that words give, which stand after the program's name: `--workers W`, `--grain K`, `--states N`, `--census`
+/// and `--demo SEED`, each at most once and in any order.
 ///
 /// Errors: `Usage` exactly where `clap` refuses the words for the command with these options, or a number is not one to
 /// ten digits with a value in its range; `NoMemory`.
@@ -83,7 +88,9 @@ fn command<'a>(alloc: Global) -> Result<Command<'a>, AllocError>
     Command::new(alloc, PROGRAM)
         .arg(option(alloc, "workers"))?
         .arg(option(alloc, "grain"))?
-        .arg(option(alloc, "states"))
+        .arg(option(alloc, "states"))?
+        .arg(flag(alloc, "census"))?
+        .arg(option(alloc, "demo"))
 }
 
 // An option that takes a text.
@@ -92,6 +99,14 @@ fn option<'a>(alloc: Global, name: &'a str) -> Arg<'a>
     ensures local { result.global ≡ false }
 {
     Arg::new(alloc, name).long(name).action(ArgAction::Set)
+}
+
+// An option that takes nothing.
+fn flag<'a>(alloc: Global, name: &'a str) -> Arg<'a>
+    ensures rule { rule_of result ≡ spec.flag_rule name.entry.now }
+    ensures local { result.global ≡ false }
+{
+    Arg::new(alloc, name).long(name).action(ArgAction::SetTrue)
 }
 
 // What matches say, if their texts are numbers in their ranges.
@@ -103,6 +118,8 @@ fn read_options(matches: &ArgMatches) -> Option<Options>
         workers: number(matches, "workers", 4, 1, 64)? as u16,
         grain: number(matches, "grain", 1, 1, 1024)? as u16,
         states: number(matches, "states", 262_144, 1, 1_048_576)?,
+        census: is_given(matches, "census"),
+        demo: seed(matches, "demo")?,
     })
 }
 
@@ -116,5 +133,22 @@ fn number(matches: &ArgMatches, name: &str, usual: u32, least: u32, most: u32) -
     match matches.get_str(name) {
         Some(text) => read_number(text, least, most),
         None => Some(usual),
+    }
+}
+
+// Whether words give an option.
+fn is_given(matches: &ArgMatches, name: &str) -> bool
+    ensures { result ≡ spec.is_given (rows_of (found_of matches.now)) name.now }
+{
+    matches.value_source(name) == Some(ValueSource::CommandLine)
+}
+
+// The seed that an option gives, if it is one; an inner `None` where the option is not given.
+fn seed(matches: &ArgMatches, name: &str) -> Option<Option<u32>>
+    ensures { result ≡ spec.seed_in (rows_of (found_of matches.now)) name.now }
+{
+    match matches.get_str(name) {
+        Some(text) => read_number(text, 0, u32::MAX).map(Some),
+        None => Some(None),
     }
 }

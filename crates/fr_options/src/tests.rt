@@ -15,21 +15,46 @@ fn read(alloc: Global, words: &[&str]) -> Result<Result<Options, WordsFault>, Fa
 #[test]
 fn words_give_options(rt: HostRuntime) -> Result<(), Fail> {
     let alloc = rt.alloc();
-    for (words, workers, grain, states) in [
-        ([].as_slice(), 4, 1, 262_144),
+    let usual = Options {
+        workers: 4,
+        grain: 1,
+        states: 262_144,
+        census: false,
+        demo: None,
+    };
+    for (words, options) in [
+        ([].as_slice(), usual),
         (
             ["--workers", "64", "--grain=0001024"].as_slice(),
-            64,
-            1024,
-            262_144,
+            Options {
+                workers: 64,
+                grain: 1024,
+                ..usual
+            },
         ),
-        (["--states", "1048576", "--"].as_slice(), 4, 1, 1_048_576),
+        (
+            ["--states", "1048576", "--"].as_slice(),
+            Options {
+                states: 1_048_576,
+                ..usual
+            },
+        ),
+        (
+            ["--demo", "0", "--census"].as_slice(),
+            Options {
+                census: true,
+                demo: Some(0),
+                ..usual
+            },
+        ),
+        (
+            ["--demo=4294967295"].as_slice(),
+            Options {
+                demo: Some(u32::MAX),
+                ..usual
+            },
+        ),
     ] {
-        let options = Options {
-            workers,
-            grain,
-            states,
-        };
         assert_eq!(rt; read(alloc, words)?, Ok(options));
     }
     Ok(())
@@ -51,6 +76,14 @@ fn other_words_are_refused(rt: HostRuntime) -> Result<(), Fail> {
         ["--states", "1 "].as_slice(),
         ["--states"].as_slice(),
         ["--states", "1", "--states", "1"].as_slice(),
+        ["--demo", "4294967296"].as_slice(),
+        ["--demo", "00000000000"].as_slice(),
+        ["--demo", "-1"].as_slice(),
+        ["--demo"].as_slice(),
+        ["--demo", "1", "--demo", "1"].as_slice(),
+        ["--census", "--census"].as_slice(),
+        ["--census="].as_slice(),
+        ["--census=true"].as_slice(),
         ["--frob"].as_slice(),
         ["--frob", "1"].as_slice(),
         ["1"].as_slice(),

@@ -7,4 +7,6 @@ pub returns : goal.returns
 returns c =
     let first = c.in_ok-arg.ensures.shape c.option.ensures.local ∙ ap₂ with_rule c.new.ensures.app c.option.ensures.rule in
     let second = c.in_ok-arg-2.ensures.shape c.option-2.ensures.local ∙ ap₂ with_rule first c.option-2.ensures.rule in
-    IfOk-weaker c.arg-3.result _ _ (λ k h. h.shape c.option-3.ensures.local ∙ ap₂ with_rule second c.option-3.ensures.rule) c.arg-3.ensures
+    let third = c.in_ok-arg-3.ensures.shape c.option-3.ensures.local ∙ ap₂ with_rule second c.option-3.ensures.rule in
+    let fourth = c.in_ok-arg-4.ensures.shape c.flag.ensures.local ∙ ap₂ with_rule third c.flag.ensures.rule in
+    IfOk-weaker c.arg-5.result _ _ (λ k h. h.shape c.option-4.ensures.local ∙ ap₂ with_rule fourth c.option-4.ensures.rule) c.arg-5.ensures
