@@ -18,20 +18,21 @@ use Rattle.fr_plain.specs.Scopes.{Scope, bound}
 use Rattle.fr_plain.specs.Outcomes.{Outcome, IsOutcome}
 use Rattle.fr_plain.specs.Beginnings.{ReachesCharge}
 use Rattle.fr_expr.specs.declared.env.Binding.{Binding}
+use Rattle.fr_expr.proofs.EvaluationLaws.{HaveHandles-keeps}
 use Rattle.fr_expr.specs.Names.{Names, either, above, Matches, AreNames}
 use Rattle.fr_eval.specs.Bindings.{AreAbove, AddsAt}
 use Rattle.fr_session.specs.declared.session.Reply.{Reply}
 use Rattle.fr_session.specs.declared.fault.SessionFault.{SessionFault}
 use Rattle.fr_session.specs.declared.fault.SessionFault.TheVariants as session
-use Rattle.fr_session.specs.Feeding.{FitsSaid, FitsFed, Replies, FindsNoRoom}
+use Rattle.fr_session.specs.Feeding.{FitsSaid, FitsFed, BindsNothing, Replies, FindsNoRoom}
 use Rattle.fr_session.proofs.NameLaws.{AddsFrom, adds_nothing, adds_there, adds_below, adds_both, names_grow}
 use Rattle.frcalc.specs.declared.evaluation.EvaluationFault.TheVariants as fault
 use Rattle.frcalc.specs.declared.feeding.Fed.{Fed}
 use Rattle.frcalc.specs.Faults.{of_session}
 use Rattle.frcalc.specs.Evaluations.{IsDearer}
-use Rattle.frcalc.specs.Items.{IsAskItem}
-use Rattle.frcalc.specs.Feeding.{IsReplyOf, charge_at, charge_in, AreFed, IsFed, FeedsItem}
-use Rattle.frcalc.proofs.ItemLaws.{append_one, number_of, reaches_past}
+use Rattle.frcalc.specs.Feeding.{IsReplyOf, charge_at, charge_in, AreFed, KnowsOnly, IsFed, FeedsItem}
+use Rattle.frcalc.proofs.ItemLaws.{append_one, number_of, item_keeps, reaches_past}
+use Rattle.frcalc.proofs.HeldLaws.{AreCutAt, cuts_begin, cuts_past, cuts_met, knows_nothing, knows_more}
 
 charge_in-push : (rs : List (Option Reply)) (r : Option Reply) → charge_in (rs ++ r ∷ []) ≡ charge_in rs + charge_at r
 charge_in-push [] r = omega arith
@@ -72,6 +73,8 @@ pub record Feeding (script : Script) (limit i : ℕ) (store : VecStore) (names :
   pub joins : (known : ℕ → Option (List ℕ)) (later : Names) (rest : List (Option Reply)) → Keeps (vec_view.known store) known → AddsFrom (suc low) names later
       → AreFed script.alphabet known later scope (drop i script.items) rest → AreFed script.alphabet known later [] script.items (replies ++ rest)
   pub reaches : (n : ℕ) → ReachesCharge script.alphabet scope (drop i script.items) n → ReachesCharge script.alphabet [] script.items (charge + n)
+  pub cuts : AreCutAt script i scope
+  pub only : KnowsOnly script (vec_view.known store)
   pub charge_is : charge ≡ charge_in replies
   pub above : AreAbove (suc low) names
   pub names_are : AreNames script.alphabet (vec_view.known store) names (suc low) scope
@@ -81,13 +84,15 @@ pub record Feeding (script : Script) (limit i : ℕ) (store : VecStore) (names :
   pub capacity : vec_view.capacity store ≡ limit
 
 pub feeding_begins : (script : Script) (limit : ℕ) (store : VecStore) (names : Names) (replies : List (Option Reply)) → FitsScript script → vec_view.alphabet store ≡ script.alphabet
-    → vec_view.capacity store ≡ limit → vec_view.own store ≡ 0 → ((q : List ℕ) → names q ≡ []) → replies ≡ [] → Feeding script limit 0 store names replies 0
-feeding_begins script limit store names replies fits a k own none empty = record {
+    → vec_view.capacity store ≡ limit → vec_view.own store ≡ 0 → ((n : ℕ) → vec_view.known store n ≡ None) → ((q : List ℕ) → names q ≡ []) → replies ≡ [] → Feeding script limit 0 store names replies 0
+feeding_begins script limit store names replies fits a k own unknown none empty = record {
   low = 0;
   scope = [];
   fits = fits.items;
   joins = λ known later rest keeps adds x. subst (λ (rs : List (Option Reply)). AreFed script.alphabet known later [] script.items (rs ++ rest)) (sym empty) x;
   reaches = λ n x. subst (ReachesCharge script.alphabet [] script.items) (omega arith) x;
+  cuts = cuts_begin script;
+  only = knows_nothing script (vec_view.known store) unknown;
   charge_is = sym (ap charge_in empty);
   above = λ q. subst (All (λ (b : Binding). b.line < 1)) (sym (none q)) (All-nil (λ (b : Binding). b.line < 1));
   names_are = record { at = λ q. subst (λ (bs : List Binding). Matches script.alphabet (vec_view.known store) (above 1 bs) None) (sym (none q)) tt };
@@ -126,8 +131,8 @@ module _ {script : Script} {limit i : ℕ} {store : VecStore} {names : Names} {r
       → ReachesCharge script.alphabet [] script.items (charge + (o.charge + n))
   goes_from o n is x = w.reaches (o.charge + n) (subst (λ (l : List Item). ReachesCharge script.alphabet w.scope l (o.charge + n)) (sym here) (ReachesCharge.goes_on w.scope item (drop (i + 1) script.items) o n is x))
 
-  -- an item that asks is left out
-  left_out : (names' : Names) → IsAskItem item.body → AreNames script.alphabet (vec_view.known store) names' (suc item.line) w.scope → AddsAt item.line names names'
+  -- an item that binds nothing is left out
+  left_out : (names' : Names) → BindsNothing item.body → AreNames script.alphabet (vec_view.known store) names' (suc item.line) w.scope → AddsAt item.line names names'
       → Feeding script limit (i + 1) store names' (replies ++ None ∷ []) charge
   left_out names' ask below adds = record {
     low = item.line;
@@ -140,6 +145,8 @@ module _ {script : Script} {limit i : ℕ} {store : VecStore} {names : Names} {r
         (w.joins known later (None ∷ rest) keeps (adds_below (suc w.low) item.line names later (omega (arith, item_fits.0)) added)
         (subst (λ (l : List Item). AreFed script.alphabet known later w.scope l (None ∷ rest)) (sym here) (ask, seen, x)));
     reaches = λ n x. w.reaches n (subst (λ (l : List Item). ReachesCharge script.alphabet w.scope l n) (sym here) (reaches_past script.alphabet item.line w.scope item.body (drop (i + 1) script.items) n ask x));
+    cuts = cuts_past item here w.cuts w.scope (λ o is. item_keeps script.alphabet item.line w.scope item.body o ask is);
+    only = w.only;
     charge_is = omega (arith, charge_in-push replies None, w.charge_is);
     above = above_added item.line names names' feeding_above adds;
     names_are = below;
@@ -161,10 +168,13 @@ module _ {script : Script} {limit i : ℕ} {store : VecStore} {names : Names} {r
         let is_reply : IsReplyOf h.outcome r = record { text_is = h.text_is; charge_is = h.charge_is; refused_is = h.refused_is } in
         subst (AreFed script.alphabet known later [] script.items) (sym (append_one replies rest (Some r)))
         (w.joins known later (Some r ∷ rest) (Keeps-trans (vec_view.known store) (vec_view.known new) known keeps k) (adds_below (suc w.low) item.line names later (omega (arith, item_fits.0)) added)
-        (subst (λ (l : List Item). AreFed script.alphabet known later w.scope l (Some r ∷ rest)) (sym here) (h.outcome, h.is_outcome, is_reply, x)));
+        (subst (λ (l : List Item). AreFed script.alphabet known later w.scope l (Some r ∷ rest)) (sym here)
+        (h.outcome, h.is_outcome, is_reply, HaveHandles-keeps script.alphabet (vec_view.known new) known h.outcome.steps k h.makes.handles, x)));
     reaches = λ n x.
         let same : charge + (h.outcome.charge + n) ≡ charge + r.charge + n = omega (arith, h.charge_is) in
         subst (ReachesCharge script.alphabet [] script.items) same (goes_from h.outcome n h.is_outcome x);
+    cuts = cuts_met item here w.cuts h.outcome h.is_outcome;
+    only = knows_more item here w.cuts (vec_view.known store) (vec_view.known new) h.outcome h.is_outcome w.only h.makes.grows;
     charge_is = omega (arith, charge_in-push replies (Some r), w.charge_is);
     above = above_added item.line names names' feeding_above adds;
     names_are = h.names_are;
@@ -232,6 +242,7 @@ feeding_ends {script} {limit} {i} {store} {names} {replies} {charge} fed w le r 
   are_fed = subst (AreFed script.alphabet (vec_view.known store) names [] script.items) (append-nil replies ∙ sym r)
       (w.joins (vec_view.known store) names [] (Keeps-refl (vec_view.known store)) (adds_nothing (suc w.low) names)
       (subst (λ (l : List Item). AreFed script.alphabet (vec_view.known store) names w.scope l []) (sym (at_drop_all (λ l. l) script.items i le)) refl));
+  only = w.only;
   charge_is = c ∙ w.charge_is ∙ sym (ap charge_in r);
   own = omega (arith, c, w.own);
   within = omega (arith, c, w.within);

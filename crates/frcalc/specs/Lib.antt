@@ -3,3 +3,4 @@ pub mod Faults
 pub mod Items
 pub mod Feeding
 pub mod Program
+pub mod Taking

@@ -9,21 +9,22 @@ ghost use Rattle.fr_expr.specs.Names.{AreNames};
 ghost use Rattle.fr_expr.specs.Tables.{names_in};
 ghost use Rattle.fr_eval.specs.Bindings.{AreAllKnown};
 ghost use Rattle.frcalc.specs.Evaluations.{IsEvaluation, IsDearer};
-ghost use Rattle.frcalc.specs.Feeding.{IsFed, AsksUnlessReplied, TellsItem};
-ghost use Rattle.frcalc.specs.Items.{IsAskItem, AnswersItem};
+ghost use Rattle.frcalc.specs.Feeding.{IsFed, BindsUnlessReplied, TellsItem};
+ghost use Rattle.fr_session.specs.Feeding.{BindsNothing};
+ghost use Rattle.frcalc.specs.Items.{AnswersItem};
 ghost use Rattle.frcalc.specs.declared.evaluation.EvaluationFault.TheVariants as fault;
 
 use crate::evaluation::{Evaluation, EvaluationFault};
 use crate::feeding::Fed;
 use fr_eval::{Stop, ask};
 use fr_expr::Env;
-use fr_script::{Body, Item, Script};
+use fr_script::{Body, Item, Script, print_fault};
 use fr_session::Reply;
 use fr_store::{Store, VecStore};
 use std::alloc::Global;
 
-/// Answers the items of a script that ask, and puts the texts of all its items in order of lines. `fed` are the replies to
-/// the others, and `env` the names that they bound over the store.
+/// Answers the items of a script that were left out, and puts the texts of all its items in order of lines. `fed` are the
+/// replies to the others, and `env` the names that they bound over the store.
 ///
 /// Errors: `StatesPassed` only where the charge of the script is more than the limit; `NoMemory`.
 pub fn answer_all(
@@ -52,11 +53,15 @@ pub fn answer_all(
             return Err(EvaluationFault::StatesPassed);
         }
     }
-    Ok(Evaluation { text, refused })
+    Ok(Evaluation {
+        text,
+        refused,
+        charge,
+        census: store.census(),
+    })
 }
 
-// Appends the text of an item: its reply, or where there is none, the answer to what it asks. Answers whether it has a
-// fault.
+// Appends the text of an item: its reply, or where there is none, its answer. Answers whether it has a fault.
 fn answer_item<S: Store>(
     alloc: Global,
     store: &mut S,
@@ -67,7 +72,7 @@ fn answer_item<S: Store>(
     charge: &mut u64,
 ) -> Result<bool, Stop>
     requires fits { FitsItem (S.view.alphabet store.old) 4096 item.now }
-    requires asks { AsksUnlessReplied item.now.body reply.now }
+    requires binds { BindsUnlessReplied item.now.body reply.now }
     requires known { AreAllKnown (S.view.known store.old) (names_in env.now) }
     requires charge { charge.old ≤ 2 ^ 62 }
     ensures tells { TellsItem S.view item.now (names_in env.now) reply.now store.old store.new charge.old charge.new text.old.items text.new.items result }
@@ -84,7 +89,7 @@ fn answer_item<S: Store>(
     }
 }
 
-// Appends the answer to an item that asks. Answers whether it has a fault.
+// Appends the answer to an item that was left out, or its fault. Answers whether it has one.
 fn answer<S: Store>(
     alloc: Global,
     store: &mut S,
@@ -94,7 +99,7 @@ fn answer<S: Store>(
     charge: &mut u64,
 ) -> Result<bool, Stop>
     requires fits { FitsItem (S.view.alphabet store.old) 4096 item.now }
-    requires asks { IsAskItem item.now.body }
+    requires binds { BindsNothing item.now.body }
     requires known { AreAllKnown (S.view.known store.old) (names_in env.now) }
     requires charge { charge.old ≤ 2 ^ 62 }
     ensures answers { (scope : Scope) → AreNames (S.view.alphabet store.old) (S.view.known store.old) (names_in env.now) item.now.line scope
@@ -102,11 +107,15 @@ fn answer<S: Store>(
     ensures keeps { Keeps (S.view.known store.old) (S.view.known store.new) }
     ensures continues { Continues S.view store.old store.new }
 {
-    match &item.body {
+    let told = item.body.read(alloc)?;
+    match told.body() {
         Body::Says(statement) => {
             let end = ask(alloc, store, env, item.line, statement, text, charge)?;
             Ok(end.is_refused())
         }
-        Body::Faulty(_) => unreachable!(),
+        Body::Faulty(fault) => {
+            print_fault(fault, text)?;
+            Ok(true)
+        }
     }
 }

@@ -20,6 +20,10 @@ pub struct Evaluation {
     pub text: Vec<u8>,
     /// Whether a line has a fault.
     pub refused: bool,
+    /// What is charged for them together.
+    pub charge: u64,
+    /// How many classes the sections of all evaluated elements fall into, up to acting alike.
+    pub census: u64,
 }
 
 /// Why a script gives nothing.
@@ -82,8 +86,7 @@ impl From<Stop> for EvaluationFault {
 }
 
 /// Evaluates the items of a script over a store of as many rows as the limit of its charge says, which is from 1 to
-/// 1,048,576: first the definitions and the lines with a fault of reading, then the questions. The texts stand in order of
-/// lines.
+/// 1,048,576: first the definitions, then the questions. The texts stand in order of lines.
 ///
 /// Errors: `StatesPassed` exactly where the charge is more than the limit; `NoMemory`.
 pub fn evaluate(alloc: Global, script: &Script, limit: u32) -> Result<Evaluation, EvaluationFault>

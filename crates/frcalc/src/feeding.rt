@@ -1,6 +1,6 @@
 //! The definitions of a script, which are fed to a session.
 
-ghost use Rattle.std.specs.Prelude.{ℕ, List, ◌≡◌, ◌≤◌, ◌^◌, ◌↔◌, [], IfOk, IsErrOf, IsTrue};
+ghost use Rattle.std.specs.Prelude.{ℕ, List, ◌≡◌, ◌≤◌, ◌^◌, [], None, IfOk, IsErrOf};
 ghost use Rattle.fr_script.specs.Fits.{FitsScript};
 ghost use Rattle.fr_store.specs.Store.{Keeps, Continues};
 ghost use Rattle.fr_store.specs.VecView.{vec_view};
@@ -10,12 +10,11 @@ ghost use Rattle.fr_expr.specs.Tables.{names_in};
 ghost use Rattle.fr_eval.specs.Bindings.{AreAbove, AddsAt};
 ghost use Rattle.fr_session.specs.Feeding.{FitsFed};
 ghost use Rattle.frcalc.specs.Evaluations.{IsDearer};
-ghost use Rattle.frcalc.specs.Items.{IsAskItem};
 ghost use Rattle.frcalc.specs.Feeding.{FeedsItem, IsFed, charge_at};
 ghost use Rattle.frcalc.specs.declared.evaluation.EvaluationFault.TheVariants as fault;
 
 use crate::evaluation::EvaluationFault;
-use fr_script::{Body, Item, Script, Statement};
+use fr_script::{Item, Script};
 use fr_session::{Reply, Session, SessionFault};
 use fr_store::{Store, VecStore};
 use std::alloc::Global;
@@ -23,14 +22,14 @@ use std::alloc::Global;
 /// What a session replied to the items of a script.
 #[derive(Drop)]
 pub struct Fed {
-    /// The reply to each item, in order of lines, and none where it asks.
+    /// The reply to each item, in order of lines, and none where it was left out.
     pub replies: Vec<Option<Reply>>,
     /// What is charged for them together.
     pub charge: u64,
 }
 
-/// Feeds the items of a script that do not ask to a new session, in order of lines. Its store has as many rows as the limit
-/// of the charge says.
+/// Feeds the items of a script to a new session, in order of lines, and leaves out those that ask. Its store has as many
+/// rows as the limit of the charge says.
 ///
 /// Errors: `StatesPassed` only where the charge of the script is more than the limit; `NoMemory`.
 pub fn feed_all(
@@ -44,6 +43,7 @@ pub fn feed_all(
     requires alphabet { vec_view.alphabet session.old.store ≡ script.now.alphabet }
     requires capacity { vec_view.capacity session.old.store ≡ limit }
     requires unclaimed { vec_view.own session.old.store ≡ 0 }
+    requires unknown { (n : ℕ) → vec_view.known session.old.store n ≡ None }
     requires unbound { (name : List ℕ) → names_in session.old.env name ≡ [] }
     ensures ok { IfOk result (λ fed. IsFed script.now limit session.new.store (names_in session.new.env) fed) }
     ensures passed { IsErrOf result fault.StatesPassed → IsDearer script.now limit }
@@ -61,7 +61,7 @@ pub fn feed_all(
     Ok(Fed { replies, charge })
 }
 
-// Feeds an item to a session, unless it asks.
+// Feeds an item to a session, and leaves it out where it asks.
 fn feed_item<S: Store>(session: &mut Session<S>, item: &Item) -> Result<Option<Reply>, SessionFault>
     requires fits { FitsFed (S.view.alphabet session.old.store) item.now }
     requires line { 1 ≤ item.now.line }
@@ -73,23 +73,10 @@ fn feed_item<S: Store>(session: &mut Session<S>, item: &Item) -> Result<Option<R
     ensures continues { Continues S.view session.old.store session.new.store }
     ensures most { IfOk result (λ reply. charge_at reply ≤ 2 ^ 57) }
 {
-    if asks(item) {
+    if item.body.asks() {
         return Ok(None);
     }
     Ok(Some(session.feed(item)?))
-}
-
-// Whether an item asks: it is no definition, and has no fault of reading.
-fn asks(item: &Item) -> bool
-    ensures { IsTrue result ↔ IsAskItem item.now.body }
-{
-    match &item.body {
-        Body::Faulty(_) => false,
-        Body::Says(statement) => !matches!(
-            statement,
-            Statement::Alphabet(_) | Statement::Group(_) | Statement::Let(_, _)
-        ),
-    }
 }
 
 // What is charged for a reply, and nothing where there is none.

@@ -5,8 +5,10 @@ mod answering;
 mod evaluation;
 mod feeding;
 mod program;
+mod taking;
 #[cfg(test)]
 mod tests;
+mod writing;
 
 use fr_io::{StdSink, StdSource};
 use program::{Ending, close, run};

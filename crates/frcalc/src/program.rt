@@ -3,18 +3,16 @@
 ghost use Rattle.std.specs.Prelude.{◌≡◌, ◌+◌, ◌≤◌, ◌++◌, length, map};
 ghost use Rattle.arrayvec.specs.ArrayVec.{array_vec_len};
 ghost use Rattle.fr_options.specs.Options.{options_of};
-ghost use Rattle.frcalc.specs.Program.{sides_of, Causes, Completes, Passes, Ends, Says, message_of, front_of, status_of};
+ghost use Rattle.frcalc.specs.Program.{sides_of, Causes, Completes, Passes, Ends, Says, Writes, message_of, front_of, status_of};
 
-use crate::evaluation::{EvaluationFault, evaluate};
+use crate::evaluation::{Evaluation, EvaluationFault, evaluate};
+use crate::taking::{TakeFault, take_script};
+use crate::writing::due;
 use arrayvec::ArrayVec;
-use fr_io::{Failed, ReadStop, Sink, Source, get_all, put_all};
-use fr_options::{WordsFault, read_words};
-use fr_script::{ScriptFault, read_script};
+use fr_io::{Failed, Sink, Source, put_all};
+use fr_options::{Options, WordsFault, read_words};
 use itoa::Buffer;
 use std::alloc::Global;
-
-/// The most bytes of a script.
-pub const SCRIPT_LIMIT: u32 = 1_048_576;
 
 /// How a run ends.
 #[derive(Clone, Copy, Debug, PartialEq, Eq)]
@@ -39,10 +37,14 @@ pub enum Ending {
 
 /// Reads a script from `input`, writes its text to `out`, and says on `err` why it did not.
 ///
-/// `words` are those after the program's name, as `read_words` takes them: the number of states is the limit of the charge,
-/// and the numbers of workers and of questions at a time have no effect yet. Answers the status. Where several hold, the
-/// words are refused before a read fails or a script is too long, these before the charge passes the limit, and this before a
-/// write fails.
+/// `words` are those after the program's name, as `read_words` takes them. The number of states is the limit of the charge;
+/// the numbers of workers and of questions at a time have no effect yet. With a census a last line tells how many classes
+/// the sections of all evaluated elements fall into, up to acting alike. With a seed the script is the demonstration of the
+/// seed, the source is not touched, and four lines are written: the number of its lines, how many of them are answered
+/// `equal`, its charge, and its census.
+///
+/// Answers the status. Where several hold, the words are refused before a read fails or a script is too long, these before
+/// the charge passes the limit, and this before a write fails.
 pub fn run<S: Source, T: Sink, E: Sink>(
     alloc: Global,
     words: &[String],
@@ -99,7 +101,9 @@ fn front(ending: Ending) -> &'static [u8]
 {
     match ending {
         Ending::Fine | Ending::Refused => b"",
-        Ending::Usage => b"frcalc: usage: frcalc [--workers W] [--grain K] [--states N]\n",
+        Ending::Usage => {
+            b"frcalc: usage: frcalc [--workers W] [--grain K] [--states N] [--census] [--demo SEED]\n"
+        },
         Ending::ReadFailed => b"frcalc: read failed\n",
         Ending::WriteFailed => b"frcalc: write failed\n",
         Ending::TooLong => b"frcalc: script too long\n",
@@ -134,25 +138,30 @@ fn work<S: Source, T: Sink>(alloc: Global, words: &[String], input: &mut S, out:
         Err(WordsFault::Usage) => return Ending::Usage,
         Err(WordsFault::NoMemory) => return Ending::NoMemory,
     };
-    let bytes = match get_all(alloc, input, SCRIPT_LIMIT) {
-        Ok(bytes) => bytes,
-        Err(ReadStop::Failed) => return Ending::ReadFailed,
-        Err(ReadStop::TooLong) => return Ending::TooLong,
-        Err(ReadStop::NoMemory) => return Ending::NoMemory,
-    };
-    let script = match read_script(alloc, &bytes) {
+    let script = match take_script(alloc, options.demo, input) {
         Ok(script) => script,
-        Err(ScriptFault::LinesPassed) => return Ending::TooLong,
-        Err(ScriptFault::NoMemory) => return Ending::NoMemory,
+        Err(TakeFault::ReadFailed) => return Ending::ReadFailed,
+        Err(TakeFault::TooLong) => return Ending::TooLong,
+        Err(TakeFault::NoMemory) => return Ending::NoMemory,
     };
-    let evaluation = match evaluate(alloc, &script, options.states) {
-        Ok(evaluation) => evaluation,
-        Err(EvaluationFault::StatesPassed) => return Ending::StatesPassed(options.states),
-        Err(EvaluationFault::NoMemory) => return Ending::NoMemory,
+    match evaluate(alloc, &script, options.states) {
+        Ok(evaluation) => write(alloc, &options, evaluation, out),
+        Err(EvaluationFault::StatesPassed) => Ending::StatesPassed(options.states),
+        Err(EvaluationFault::NoMemory) => Ending::NoMemory,
+    }
+}
+
+// Writes what is due of an evaluation.
+fn write<T: Sink>(alloc: Global, options: &Options, evaluation: Evaluation, out: &mut T) -> Ending
+    ensures { Writes options.now evaluation (T.written out.old) (T.written out.new) (T.faults out.old) (T.faults out.new) result }
+{
+    let refused = evaluation.refused && options.demo.is_none();
+    let Ok(text) = due(alloc, options, evaluation) else {
+        return Ending::NoMemory;
     };
-    match put_all(out, &evaluation.text) {
+    match put_all(out, &text) {
         Err(Failed) => Ending::WriteFailed,
-        Ok(()) if evaluation.refused => Ending::Refused,
+        Ok(()) if refused => Ending::Refused,
         Ok(()) => Ending::Fine,
     }
 }

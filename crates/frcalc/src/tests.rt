@@ -434,7 +434,60 @@ fn refuses_words(rt: HostRuntime) -> Result<(), Fail> {
     assert_eq!(rt; ran.status, 2);
     assert_eq!(rt;
         ran.said.as_slice(),
-        b"frcalc: usage: frcalc [--workers W] [--grain K] [--states N]\n".as_slice()
+        b"frcalc: usage: frcalc [--workers W] [--grain K] [--states N] [--census] [--demo SEED]\n".as_slice()
     );
+    Ok(())
+}
+
+#[test]
+fn counts_what_a_script_holds(rt: HostRuntime) -> Result<(), Fail> {
+    let alloc = rt.alloc();
+    for (block, lines, text, status) in [
+        ("", "", "store 0\n", 0),
+        (ADDING, "", "store 2\n", 0),
+        (ADDING, "states t^1024", "12\nstore 12\n", 0),
+        (ADDING, "eq t*t*zed 1", "line 4: unknown name\nstore 3\n", 1),
+        (
+            GRIGORCHUK,
+            "eq b*c d\neq c*d b\neq d*b c",
+            "equal\nequal\nequal\nstore 5\n",
+            0,
+        ),
+    ] {
+        let script = format!(in alloc; "{block}{lines}")?;
+        let ran = finish(alloc, &["--census"], script.as_bytes(), 8, &[], 64, &[])?;
+        assert_eq!(rt; ran.text.as_slice(), text.as_bytes(), "{lines}");
+        assert_eq!(rt; ran.status, status, "{lines}");
+    }
+    Ok(())
+}
+
+// The source fails at its first read, which does not come.
+#[test]
+fn demonstrates(rt: HostRuntime) -> Result<(), Fail> {
+    let alloc = rt.alloc();
+    for (seed, states, text, status, said) in [
+        (
+            "0",
+            "22584",
+            "lines 2000\nequal 64\ncharge 22584\nstore 47\n",
+            0,
+            "",
+        ),
+        ("0", "22583", "", 6, "frcalc: states pass 22583\n"),
+        (
+            "4294967295",
+            "262144",
+            "lines 2000\nequal 68\ncharge 22307\nstore 47\n",
+            0,
+            "",
+        ),
+    ] {
+        let words = ["--demo", seed, "--states", states];
+        let ran = finish(alloc, &words, b"", 8, &[1], 64, &[])?;
+        assert_eq!(rt; ran.text.as_slice(), text.as_bytes(), "{seed}");
+        assert_eq!(rt; ran.status, status, "{seed}");
+        assert_eq!(rt; ran.said.as_slice(), said.as_bytes(), "{seed}");
+    }
     Ok(())
 }

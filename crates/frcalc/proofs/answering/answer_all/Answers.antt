@@ -56,4 +56,5 @@ loop-k-preserved c =
 
 pub returns-clause-ok : goal.returns-clause-ok
 returns-clause-ok c =
-    answering_ends (record { text = c.loop-k.text; refused = c.loop-k.refused }) c.loop-k.invariant.answering (omega (arith, c.loop-k-test.false, ap length c.loop-k.invariant.items)) refl refl
+    answering_ends (record { text = c.loop-k.text; refused = c.loop-k.refused; charge = c.loop-k.charge; census = c.census.result }) c.loop-k.invariant.answering
+    (omega (arith, c.loop-k-test.false, ap length c.loop-k.invariant.items)) refl refl refl c.census.ensures.handles c.census.ensures.count

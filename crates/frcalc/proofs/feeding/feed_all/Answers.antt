@@ -3,8 +3,17 @@ use Rattle.std.proofs.lemmas.Result.{err_from_is_err_and}
 use Rattle.fr_expr.specs.Tables.{names_in}
 use Rattle.frcalc.specs.declared.evaluation.EvaluationFault.TheVariants as fault
 use Rattle.frcalc.proofs.ItemLaws.{here, fault_same}
-use Rattle.frcalc.proofs.FeedingLaws.{feeding_names, feeding_goes, feeding_next, feeding_passes, feeding_stops, feeding_ends}
+use Rattle.frcalc.proofs.FeedingLaws.{feeding_begins, feeding_names, feeding_goes, feeding_next, feeding_passes, feeding_stops, feeding_ends}
 use Rattle.frcalc.proofs.feeding.feed_all.Goals as goal
+
+pub loop-item-init : goal.loop-item-init
+loop-item-init c =
+    let session = c.args.session.now in
+    let r = c.requires in
+    record {
+      items = c.as_slice-item-items.ensures;
+      feeding = feeding_begins c.args.script.now c.args.limit session.store (names_in session.env) c.new-replies.result.items r.fits r.alphabet r.capacity r.unclaimed r.unknown r.unbound c.new-replies.ensures.items;
+    }
 
 pub returns-in_err-reply-clause-passed : goal.returns-in_err-reply-clause-passed
 returns-in_err-reply-clause-passed c = λ passed.
