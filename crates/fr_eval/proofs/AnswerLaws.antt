@@ -1,10 +1,15 @@
 -- Answers that were found for the row of a machine are those of each term that acts alike.
-use Rattle.std.proofs.Common.{ℕ, ◌≡◌, List, [], ◌∷◌, ◌++◌, Some, refl, sym, ◌∙◌, ap, append_assoc}
-use Rattle.std.specs.Prelude.{codes}
+use Rattle.std.proofs.Common.{ℕ, ◌≡◌, inl, inr, Result, Ok, Err, List, [], ◌∷◌, ◌++◌, Some, refl, sym, ◌∙◌, ap, append_assoc, arith}
+use Rattle.std.specs.Prelude.{codes, OnOk}
 use Rattle.fr_model.specs.Terms.{Term, act, IsAlike}
+use Rattle.fr_model.specs.Words.{IsLetter, IsWord}
+use Rattle.fr_model.specs.Permutations.{image}
+use Rattle.fr_model.specs.Separation.{IsShortlexBefore, IsSeparatingWord}
+use Rattle.fr_model.proofs.AlikeLaws.{act-nil}
+use Rattle.fr_minimal.specs.Searches.{IsLeastDifference}
 use Rattle.fr_model.specs.Rays.{IsSameRay, IsRayImage}
 use Rattle.fr_model.proofs.GrowthLaws.{IsFinitary-alike, IsLeastTriple-alike, HasDegree-alike, IsChain-alike}
-use Rattle.fr_alphabet.specs.Writing.{word_text}
+use Rattle.fr_alphabet.specs.Writing.{letter_digit, word_text}
 use Rattle.fr_growth.specs.declared.growth_class.Class.{Class}
 use Rattle.fr_growth.specs.declared.growth_class.Class.TheVariants.{Finitary, Polynomial, Exponential}
 use Rattle.fr_growth.specs.Classes.{IsClass}
@@ -33,3 +38,41 @@ difference_text-pieces t u w v x old o1 o2 o3 o4 o5 o6 o7 e f a b c d g h i =
 
 pub comparison_text-alike : (t t' u u' : Term) (w : List ℕ) → IsAlike t t' → IsAlike u u' → comparison_text t u (Some w) ≡ comparison_text t' u' (Some w)
 comparison_text-alike t t' u u' w e f = rw (e.images w, f.images w) refl
+
+-- ---- elements whose permutations differ
+-- the least letter with different images is the least word that tells them apart
+pub letter_separates : (d : ℕ) (t u : Term) (p q : List ℕ) (x : ℕ) → ((y : ℕ) → IsLetter d y → act t (y ∷ []) ≡ image p y ∷ []) → ((y : ℕ) → IsLetter d y → act u (y ∷ []) ≡ image q y ∷ []) → IsLeastDifference d p q x
+    → IsSeparatingWord d t u (x ∷ [])
+letter_separates d t u p q x f g h = record {
+  valid = (h.letter, tt);
+  differs = λ same.
+      let heads : image p x ∷ [] ≡ image q x ∷ [] = sym (f x h.letter) ∙ same ∙ g x h.letter in
+      let first : image p x ≡ image q x = cc in
+      h.differs first;
+  least = below;
+}
+  where
+    below : (v : List ℕ) → IsWord d v → IsShortlexBefore v (x ∷ []) → act t v ≡ act u v
+    below [] w b = act-nil t ∙ sym (act-nil u)
+    below (y ∷ []) w (inl shorter) = absurd (omega (arith, shorter))
+    below (y ∷ []) w (inr (same, inl less)) = f y w.0 ∙ ap (λ z. z ∷ []) (h.least y w.0 less) ∙ sym (g y w.0)
+    below (y ∷ []) w (inr (same, inr deeper)) = absurd deeper.1
+    below (y ∷ z ∷ v) w (inl shorter) = absurd (omega (arith, shorter))
+    below (y ∷ z ∷ v) w (inr (same, lex)) = absurd (omega (arith, same))
+
+pub letter_text : (t u : Term) (x y z : ℕ) → act t (x ∷ []) ≡ y ∷ [] → act u (x ∷ []) ≡ z ∷ []
+    → codes "differ at " ++ word_text (x ∷ []) ++ codes ": " ++ word_text (y ∷ []) ++ codes " / " ++ word_text (z ∷ []) ≡ comparison_text t u (Some (x ∷ []))
+letter_text t u x y z f g = rw (f, g) refl
+
+-- the pieces of that text
+pub letter_text-pieces : (x y z : ℕ) (old o1 o2 o3 o4 o5 o6 o7 : List ℕ) → o1 ≡ old ++ codes "differ at " → o2 ≡ o1 ++ letter_digit x ∷ [] → o3 ≡ o2 ++ codes ": " → o4 ≡ o3 ++ letter_digit y ∷ []
+    → o5 ≡ o4 ++ codes " / " → o6 ≡ o5 ++ letter_digit z ∷ [] → o7 ≡ o6 ++ 10 ∷ []
+    → o7 ≡ old ++ line_of (codes "differ at " ++ word_text (x ∷ []) ++ codes ": " ++ word_text (y ∷ []) ++ codes " / " ++ word_text (z ∷ []))
+letter_text-pieces x y z old o1 o2 o3 o4 o5 o6 o7 a b c d e f g =
+    let all : o7 ≡ ((((((old ++ codes "differ at ") ++ letter_digit x ∷ []) ++ codes ": ") ++ letter_digit y ∷ []) ++ codes " / ") ++ letter_digit z ∷ []) ++ 10 ∷ [] = rw (g, f, e, d, c, b, a) refl in
+    all ∙ simp append_assoc
+
+-- what an answer says where there is one
+pub on_ok : {T E : Type 0} {A B : Type 0} (r : Result T E) → (A → B) → OnOk r A → OnOk r B
+on_ok (Ok v) f a = f a
+on_ok (Err e) f a = a

@@ -1,16 +1,18 @@
 //! The answers of statements that make no element beside those of their expressions.
 
-ghost use Rattle.std.specs.Prelude.{ℕ, ◌≡◌, ◌++◌, [], Some, OnOk, IfOk, drop};
+ghost use Rattle.std.specs.Prelude.{ℕ, ◌≡◌, ◌≤◌, ◌++◌, [], ◌∷◌, Some, OnOk, IfOk, IfSome, codes, drop, length};
 ghost use Rattle.fr_model.specs.Words.{IsWord};
 ghost use Rattle.fr_model.specs.Terms.{Term, act};
 ghost use Rattle.fr_syntax.specs.Fits.{FitsRay};
+ghost use Rattle.fr_alphabet.specs.Writing.{word_text};
 ghost use Rattle.fr_machine.specs.Rows.{row_term};
+ghost use Rattle.fr_minimal.specs.Searches.{IsLeastDifference};
 ghost use Rattle.fr_store.specs.Store.{IsKnown, Stands, Reads};
 ghost use Rattle.fr_plain.specs.Answers.{AnswersShow, AnswersStates, AnswersWreath, AnswersClass, AnswersEq, AnswersAct, AnswersRay, comparison_text, line_of};
 ghost use Rattle.fr_eval.specs.Concluding.{Prints, Concludes};
 
 use crate::rows::{push_machine, push_number, push_wreath};
-use fr_alphabet::{NoMemory, Word, print_word};
+use fr_alphabet::{NoMemory, Perm, Word, print_word};
 use fr_expr::EvalFault;
 use fr_growth::{class, print_class};
 use fr_machine::Minimal;
@@ -84,6 +86,58 @@ pub fn growth<S: Store>(
 
 /// Appends whether two elements are equal, or else the shortlex least word at which their images differ, with both images.
 pub fn compare<S: Store>(
+    alloc: Global,
+    store: &mut S,
+    a: Handle,
+    b: Handle,
+    out: &mut Vec<u8>,
+) -> Result<(), NoMemory>
+    requires a_known { IsKnown (S.view.known store.old) a }
+    requires b_known { IsKnown (S.view.known store.old) b }
+    ensures text { OnOk result ((t u : Term) → Stands S.view store.old a t → Stands S.view store.old b u → Prints (AnswersEq (S.view.alphabet store.old) t u) out.old.items out.new.items) }
+    ensures reads { Reads S.view store.old store.new }
+{
+    let left = store.output(a);
+    let right = store.output(b);
+    match different_letter(left, right) {
+        Some(x) => push_letters(x, left.apply(x), right.apply(x), out),
+        // A longer word may tell them apart, and is found in their machines.
+        None => compare_machines(alloc, store, a, b, out),
+    }
+}
+
+// The least letter that two permutations send to different letters.
+fn different_letter(p: Perm, q: Perm) -> Option<u8>
+    requires { length p ≡ length q }
+    ensures { IfSome result (λ x. IsLeastDifference (length p) p q x) }
+{
+    for x in 0..p.letters() {
+        if p.apply(x + 1) != q.apply(x + 1) {
+            return Some(x + 1);
+        }
+    }
+    None
+}
+
+// Appends a letter at which the images differ, with both images. Where memory runs out, a part of it may stand there.
+fn push_letters(x: u8, left: u8, right: u8, out: &mut Vec<u8>) -> Result<(), NoMemory>
+    requires letter { x ≤ 8 }
+    requires left_letter { left ≤ 8 }
+    requires right_letter { right ≤ 8 }
+    ensures { OnOk result (out.new.items ≡ out.old.items ++ line_of (codes "differ at " ++ word_text (x ∷ []) ++ codes ": " ++ word_text (left ∷ []) ++ codes " / " ++ word_text (right ∷ []))) }
+{
+    out.extend_from_slice(b"differ at ")?;
+    out.push(b'0' + x)?;
+    out.extend_from_slice(b": ")?;
+    out.push(b'0' + left)?;
+    out.extend_from_slice(b" / ")?;
+    out.push(b'0' + right)?;
+    out.push(b'\n')?;
+    Ok(())
+}
+
+// Appends whether the machines of two elements tell them apart.
+fn compare_machines<S: Store>(
     alloc: Global,
     store: &mut S,
     a: Handle,
