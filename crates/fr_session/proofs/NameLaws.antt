@@ -1,5 +1,5 @@
 -- What a line sees of names while later lines bind more.
-use Rattle.std.proofs.Common.{ℕ, ◌≡◌, ◌≤◌, if◌then◌else◌, nat_lt, List, [], ◌∷◌, ◌++◌, Option, Some, None, refl, sym, ◌∙◌, ap, subst, arith, append_assoc}
+use Rattle.std.proofs.Common.{ℕ, suc, ◌≡◌, ◌<◌, ◌≤◌, if◌then◌else◌, nat_lt, List, [], ◌∷◌, ◌++◌, Option, Some, None, refl, sym, ◌∙◌, ap, subst, arith, append_assoc}
 use Rattle.std.specs.List.{All}
 use Rattle.std.proofs.lemmas.Bool.{le-ltb}
 use Rattle.std.proofs.lemmas.List.{append-nil}
@@ -10,8 +10,20 @@ use Rattle.fr_plain.specs.Scopes.{Scope, bound}
 use Rattle.fr_expr.specs.declared.env.Binding.{Binding}
 use Rattle.fr_expr.specs.Names.{Names, either, above, Matches, AreNames}
 use Rattle.fr_expr.proofs.ScopeLaws.{names_keep}
-use Rattle.fr_eval.specs.Bindings.{AddsAt}
+use Rattle.fr_eval.specs.Bindings.{AreAbove, AddsAt}
 use Rattle.fr_eval.proofs.DefineLaws.{above-append}
+
+-- names above a line
+pub above_later : (line later : ℕ) (names : Names) → line ≤ later → AreAbove line names → AreAbove later names
+above_later line later names le a = λ q. All-weaker (λ (b : Binding). b.line < line) (λ (b : Binding). b.line < later) (λ b less. omega (arith, less, le)) (names q) (a q)
+
+pub above_added : (line : ℕ) (old new : Names) → AreAbove line old → AddsAt line old new → AreAbove (suc line) new
+above_added line old new a more = λ q.
+    let m = more q in
+    subst (All (λ (b : Binding). b.line < suc line)) (sym m.1)
+    (All-append (λ (b : Binding). b.line < suc line) (old q) m.0
+    (All-weaker (λ (b : Binding). b.line < line) (λ (b : Binding). b.line < suc line) (λ b less. omega (arith, less)) (old q) (a q))
+    (All-weaker (λ (b : Binding). b.line ≡ line) (λ (b : Binding). b.line < suc line) (λ b same. omega (arith, same)) m.0 m.2))
 
 -- the bindings of each name are those before and, behind them, some at this line or below it
 abbrev pub AddsFrom : ℕ → Names → Names → Type 0

@@ -2,7 +2,7 @@
 use Rattle.std.proofs.Common.{ℕ, suc, ◌≡◌, ◌<◌, ◌≤◌, ◌+◌, if◌then◌else◌, nat_lt, List, [], ◌∷◌, ◌++◌, length, drop, Option, None, Some, Ok, Err, refl, sym, ◌∙◌, ap, subst, arith}
 use Rattle.std.proofs.lemmas.Bool.{lt-ltb}
 use Rattle.std.proofs.lemmas.List.{append-nil, at_drop_all}
-use Rattle.std.proofs.lemmas.List.Elements.{All-nil, All-append, All-weaker}
+use Rattle.std.proofs.lemmas.List.Elements.{All-nil}
 use Rattle.std.specs.List.{All}
 use Rattle.fr_script.specs.declared.item.Item.{Item}
 use Rattle.fr_script.specs.declared.item.Body.{Body}
@@ -25,7 +25,7 @@ use Rattle.fr_session.specs.declared.session.Reply.{Reply}
 use Rattle.fr_session.specs.declared.fault.SessionFault.{SessionFault}
 use Rattle.fr_session.specs.declared.fault.SessionFault.TheVariants as session
 use Rattle.fr_session.specs.Feeding.{FitsSaid, FitsFed, BindsNothing, Replies, FindsNoRoom}
-use Rattle.fr_session.proofs.NameLaws.{AddsFrom, adds_nothing, adds_there, adds_below, adds_both, names_grow}
+use Rattle.fr_session.proofs.NameLaws.{above_later, above_added, AddsFrom, adds_nothing, adds_there, adds_below, adds_both, names_grow}
 use Rattle.frcalc.specs.declared.evaluation.EvaluationFault.TheVariants as fault
 use Rattle.frcalc.specs.declared.feeding.Fed.{Fed}
 use Rattle.frcalc.specs.Faults.{of_session}
@@ -39,17 +39,6 @@ charge_in-push [] r = omega arith
 charge_in-push (s ∷ rs) r = omega (arith, charge_in-push rs r)
 
 -- ---- names
-pub above_later : (line later : ℕ) (names : Names) → line ≤ later → AreAbove line names → AreAbove later names
-above_later line later names le a = λ q. All-weaker (λ (b : Binding). b.line < line) (λ (b : Binding). b.line < later) (λ b less. omega (arith, less, le)) (names q) (a q)
-
-above_added : (line : ℕ) (old new : Names) → AreAbove line old → AddsAt line old new → AreAbove (suc line) new
-above_added line old new a more = λ q.
-    let m = more q in
-    subst (All (λ (b : Binding). b.line < suc line)) (sym m.1)
-    (All-append (λ (b : Binding). b.line < suc line) (old q) m.0
-    (All-weaker (λ (b : Binding). b.line < line) (λ (b : Binding). b.line < suc line) (λ b less. omega (arith, less)) (old q) (a q))
-    (All-weaker (λ (b : Binding). b.line ≡ line) (λ (b : Binding). b.line < suc line) (λ b same. omega (arith, same)) m.0 m.2))
-
 -- a lower line sees no more of bindings above a line
 above-later : (line later : ℕ) (bs : List Binding) → line ≤ later → All (λ b. b.line < line) bs → above later bs ≡ above line bs
 above-later line later [] le h = refl

@@ -476,6 +476,13 @@ fn demonstrates(rt: HostRuntime) -> Result<(), Fail> {
         ),
         ("0", "22583", "", 6, "frcalc: states pass 22583\n"),
         (
+            "1",
+            "262144",
+            "lines 2000\nequal 66\ncharge 22490\nstore 47\n",
+            0,
+            "",
+        ),
+        (
             "4294967295",
             "262144",
             "lines 2000\nequal 68\ncharge 22307\nstore 47\n",
