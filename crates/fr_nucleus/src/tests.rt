@@ -63,6 +63,15 @@ fn elements(alloc: Global, m: &Machine, rows: &[u16]) -> Result<Vec<Minimal>, Fa
     Ok(elements)
 }
 
+// The nucleus of the group of some rows and all that are behind them.
+fn found_from(alloc: Global, m: &Machine, gens: &[u16]) -> Result<Nucleus, Fail> {
+    let gens = elements(alloc, m, gens)?;
+    if gens.is_empty() {
+        return Err("no generator".into());
+    }
+    Ok(nucleus(alloc, &gens, 256)?)
+}
+
 // The texts of elements, one behind the other.
 fn text_of(alloc: Global, elements: &[Minimal]) -> Result<Vec<u8>, NoMemory> {
     let mut scratch = Scratch::new(alloc)?;
@@ -117,9 +126,7 @@ fn groups_over_two_letters_have_their_nuclei(rt: HostRuntime) -> Result<(), Fail
     ];
     for (given, gens, members, depth) in cases {
         let m = machine_of(alloc, 2, given)?;
-        let gens = elements(alloc, &m, gens)?;
-        assert!(rt; !gens.is_empty());
-        let found = nucleus(alloc, &gens, 256)?;
+        let found = found_from(alloc, &m, gens)?;
         assert_eq!(rt; found.depth, depth);
         let wanted = text_of(alloc, &elements(alloc, &m, members)?)?;
         assert_eq!(rt; text_of(alloc, &found.members)?, wanted);
@@ -152,9 +159,7 @@ fn groups_over_three_letters_have_their_nuclei(rt: HostRuntime) -> Result<(), Fa
     ];
     for (given, gens, members, depth) in cases {
         let m = machine_of(alloc, 3, given)?;
-        let gens = elements(alloc, &m, gens)?;
-        assert!(rt; !gens.is_empty());
-        let found = nucleus(alloc, &gens, 256)?;
+        let found = found_from(alloc, &m, gens)?;
         assert_eq!(rt; found.depth, depth);
         let wanted = text_of(alloc, &elements(alloc, &m, members)?)?;
         assert_eq!(rt; text_of(alloc, &found.members)?, wanted);
