@@ -1,4 +1,9 @@
 pub mod ListingLaws
+pub mod ApartLaws
+pub mod WalkedLaws
+pub mod MinimalLaws
+pub mod ComparingLaws
+pub mod RowListLaws
 pub mod PrintLaws
 pub mod SplitLaws
 pub mod ReadLaws

@@ -1,29 +1,28 @@
 -- A walk over the rows of a minimal machine lists the canonical numbering.
-use Rattle.std.proofs.Common.{ℕ, zero, suc, ◌≡◌, ◌≢◌, ◌+◌, ◌*◌, ◌<◌, ◌⊎◌, ◌↔◌, inl, inr, List, [], ◌∷◌, ◌++◌, length, map, get_or, refl, sym, ◌∙◌, ap, subst, arith, length-append, append_assoc}
-use Rattle.std.specs.List.{flat_map}
-use Rattle.std.proofs.lemmas.List.{get_or_default, get_or_append_left, get_or_push, length_push, length-map, append-nil, get_or-map}
+use Rattle.std.proofs.Common.{ℕ, zero, suc, ◌≡◌, ◌≢◌, ◌+◌, ◌*◌, ◌<◌, ◌≤◌, ◌⊎◌, ◌↔◌, inl, inr, List, [], ◌∷◌, ◌++◌, length, map, take, get_or, set, refl, sym, ◌∙◌, ap, subst, arith, length-append}
+use Rattle.std.proofs.lemmas.List.{get_or_default, get_or_append_left, get_or_push, length_push, length-map, length-set, append-nil, get_or-map, get_or-set_other, take_more_set}
 use Rattle.std.proofs.lemmas.List.Elements.{All-from_get_or}
 use Rattle.std.proofs.lemmas.Bool.{cases_lt}
 use Rattle.std.proofs.lemmas.Grind.{flat_map-append}
 use Rattle.fr_model.specs.Words.{IsLetter, IsWord}
 use Rattle.fr_model.specs.Permutations.{image}
-use Rattle.fr_model.specs.Terms.{Section, act, IsAlike, IsTerm}
+use Rattle.fr_model.specs.Terms.{Section, act, IsAlike}
 use Rattle.fr_model.specs.Automata.{State, state_at, next_state, state_after, state_term, IsState, IsAutomaton}
-use Rattle.fr_model.specs.Canonical.{IsCanonical, IsCode}
+use Rattle.fr_model.specs.Canonical.{IsCanonical, IsCode, code_of}
 use Rattle.fr_model.proofs.AlikeLaws.{alike_sym, alike_trans, act-nil}
-use Rattle.fr_model.proofs.AutomatonLaws.{state_is, section_state, act-state_term, next_state-lt, IsTerm-state_term}
-use Rattle.fr_model.proofs.CodeLaws.{code-same, alike_from_code}
+use Rattle.fr_model.proofs.AutomatonLaws.{state_is, section_state, act-state_term, next_state-lt}
+use Rattle.fr_model.proofs.CodeLaws.{alike_from_code, IsCode-alike}
 use Rattle.fr_model.specs.Ranks.{rank}
 use Rattle.fr_machine.specs.declared.row.Row.{Row}
 use Rattle.fr_machine.specs.Rows.{state_of, states_of, row_term, IsMachine}
 use Rattle.fr_machine.specs.Classes.{row_at}
 use Rattle.fr_machine.specs.Minimal.{AreUnlike}
 use Rattle.fr_machine.specs.Walks.{WalkView, IsKeys, IsNumbered, walk_after, Extends}
-use Rattle.fr_machine.proofs.RowLaws.{IsAutomaton-states_of, length-states_of, IsTerm-row_term}
+use Rattle.fr_machine.proofs.RowLaws.{IsAutomaton-states_of, length-states_of, IsTerm-row_term, row_valid}
 use Rattle.fr_machine.proofs.WalkLaws.{Extends-refl, Extends-numbered, Extends-trans}
 use Rattle.fr_machine.proofs.OrderLaws.{IsOrdered, IsOrdered-known, IsOrdered-new, IsOrdered-row}
 use Rattle.fr_machine.proofs.CanonLaws.{IsCanonical-walked}
-use Rattle.fr_canon.specs.Listings.{row_output, IsNextPart, IsStateOf, IsKeyListed, IsListed, IsKeyPart}
+use Rattle.fr_canon.specs.Listings.{row_output, IsNextPart, IsStateOf, IsKeyListed, IsRowListed, IsListed}
 
 pub perm_at : (rows : List Row) (k : ℕ) → k < length rows → (state_at (states_of rows) k).perm ≡ (row_at rows k).perm
 perm_at rows k l = ap (λ q. q.perm) (get_or-map state_of rows k (record { perm = []; next = [] }) (record { perm = []; next = [] }) l)
@@ -40,22 +39,13 @@ fresh_key keys keys' key h e k l same =
     let at = h.distinct k (length keys) (omega (arith, size)) (omega (arith, size)) (old ∙ same ∙ sym new) in
     omega (arith, at)
 
-map_push : (xs : List ℕ) (y : ℕ) → map suc (xs ++ y ∷ []) ≡ map suc xs ++ suc y ∷ []
-map_push [] y = refl
-map_push (x ∷ xs) y = ap (λ l. suc x ∷ l) (map_push xs y)
-
-pub IsKeyPart-start : (d bound : ℕ) (step : ℕ → ℕ → ℕ) (output : ℕ → List ℕ) (w : WalkView) (key r : ℕ) (code code' : List ℕ) → r ≡ rank (output key) → code' ≡ code ++ r ∷ [] → IsKeyPart d bound step output w w key code code' 0
-IsKeyPart-start d bound step output w key r code code' e f = record {
-  next = [];
-  part = record {
-    width = refl;
-    extends = Extends-refl w.keys;
-    below = λ h. h;
-    nexts = λ y l. absurd (omega arith);
-    ordered = λ start j words l k o. (words, o);
-  };
-  written = f ∙ ap (λ n. code ++ n ∷ []) e ∙ sym (append-nil (code ++ rank (output key) ∷ []));
-  size = omega (arith, ap length f, length_push code r);
+pub IsNextPart-start : (d bound : ℕ) (step : ℕ → ℕ → ℕ) (w : WalkView) (key : ℕ) → IsNextPart d bound step w w key [] 0
+IsNextPart-start d bound step w key = record {
+  width = refl;
+  extends = Extends-refl w.keys;
+  below = λ h. h;
+  nexts = λ y l. absurd (omega arith);
+  ordered = λ start j words l k o. (words, o);
 }
 
 module _ (d bound : ℕ) (step : ℕ → ℕ → ℕ) (w w' w2 : WalkView) (key : ℕ) (next : List ℕ) (x n target : ℕ) (h : IsNextPart d bound step w w' key next x) (l : x < d) (e : target ≡ step key (x + 1)) (b : target < bound) (i : IsNumbered w' w2 target 1024 n) (keyed : IsKeys 1024 w2.keys) where
@@ -101,32 +91,48 @@ module _ (d bound : ℕ) (step : ℕ → ℕ → ℕ) (w w' w2 : WalkView) (key 
         one_more start j r.0 (omega (arith, jl, h.extends.0)) (h.extends.1 j jl ∙ je) r.1 i.keeps;
   }
 
-pub IsKeyPart-more : (d bound : ℕ) (step : ℕ → ℕ → ℕ) (output : ℕ → List ℕ) (w w' w2 : WalkView) (key : ℕ) (code code' code2 : List ℕ) (x n target : ℕ) → IsKeyPart d bound step output w w' key code code' x → x < d → target ≡ step key (x + 1) → target < bound → IsNumbered w' w2 target 1024 n → IsKeys 1024 w2.keys
-    → code2 ≡ code' ++ (n + 1) ∷ [] → IsKeyPart d bound step output w w2 key code code2 (x + 1)
-IsKeyPart-more d bound step output w w' w2 key code code' code2 x n target h l e b i keyed f =
-    let one : n + 1 ≡ suc n = omega arith in
-    record {
-      next = h.next ++ n ∷ [];
-      part = IsNextPart-more d bound step w w' w2 key h.next x n target h.part l e b i keyed;
-      written = f ∙ ap (λ m. code' ++ m ∷ []) one ∙ ap (λ c. c ++ suc n ∷ []) h.written ∙ append_assoc (code ++ rank (output key) ∷ []) (map suc h.next) (suc n ∷ []) ∙ ap (λ t. (code ++ rank (output key) ∷ []) ++ t) (sym (map_push h.next n));
-      size = omega (arith, ap length f, length_push code' (n + 1), h.size);
-    }
-
-pub IsKeyListed-from : (d bound : ℕ) (step : ℕ → ℕ → ℕ) (output : ℕ → List ℕ) (w w' : WalkView) (key : ℕ) (code code' : List ℕ) (x : ℕ) → IsKeyPart d bound step output w w' key code code' x → x ≡ d → IsKeyListed d bound step output w w' key code code'
-IsKeyListed-from d bound step output w w' key code code' x h e = record {
-  extends = h.part.extends;
-  below = h.part.below;
-  state = record { perm = output key; next = h.next };
-  is = record { perm = refl; arity = h.part.width ∙ e; nexts = λ y l. h.part.nexts y (omega (arith, e, l)) };
+pub IsKeyListed-from : (d bound : ℕ) (step : ℕ → ℕ → ℕ) (output : ℕ → List ℕ) (w w' : WalkView) (key : ℕ) (next : List ℕ) (x : ℕ) (q : State) → IsNextPart d bound step w w' key next x → x ≡ d → q.perm ≡ output key → q.next ≡ next → IsKeyListed d bound step output w w' key q
+IsKeyListed-from d bound step output w w' key next x q h e p n = record {
+  extends = h.extends;
+  below = h.below;
+  is = record { perm = p; arity = ap length n ∙ h.width ∙ e; nexts = λ y l. rw n (h.nexts y (omega (arith, e, l))) };
   ordered = λ start j words jl je o.
-      let r = h.part.ordered start j words jl je o in
+      let r = h.ordered start j words jl je o in
       (r.0, IsOrdered-row d step start w'.keys r.0 j (x + 1) r.1 (omega (arith, e)));
-  written = h.written ∙ append_assoc code (rank (output key) ∷ []) (map suc h.next);
 }
 
+-- ---- the next rows of a key, in the places of a row
+pub record IsRowBegun (d bound : ℕ) (step : ℕ → ℕ → ℕ) (w w' : WalkView) (key : ℕ) (next : List ℕ) (x : ℕ) : Type 0 where
+  pub part : IsNextPart d bound step w w' key (take x next) x
+  pub width : length next ≡ 8
+  pub zeros : (y : ℕ) → x ≤ y → y < 8 → get_or next y 0 ≡ 0
+
+pub IsRowBegun-start : (d bound : ℕ) (step : ℕ → ℕ → ℕ) (w : WalkView) (key : ℕ) (next : List ℕ) → length next ≡ 8 → ((y : ℕ) → y < 8 → get_or next y 0 ≡ 0) → IsRowBegun d bound step w w key next 0
+IsRowBegun-start d bound step w key next e z = record { part = IsNextPart-start d bound step w key; width = e; zeros = λ y l. z y }
+
+pub IsRowBegun-more : (d bound : ℕ) (step : ℕ → ℕ → ℕ) (w w' w2 : WalkView) (key : ℕ) (next next' : List ℕ) (x n target : ℕ) → IsRowBegun d bound step w w' key next x → d ≤ 8 → x < d → target ≡ step key (x + 1) → target < bound → IsNumbered w' w2 target 1024 n → IsKeys 1024 w2.keys → next' ≡ set next x n → IsRowBegun d bound step w w2 key next' (x + 1)
+IsRowBegun-more d bound step w w' w2 key next next' x n target h few l e b i keyed f =
+    let within : x < length next = omega (arith, h.width) in
+    let P : List ℕ → Type 0 = λ ns. IsNextPart d bound step w w2 key ns (x + 1) in
+    record {
+      part = subst P (sym (ap (take (x + 1)) f ∙ take_more_set next x n within)) (IsNextPart-more d bound step w w' w2 key (take x next) x n target h.part l e b i keyed);
+      width = ap length f ∙ length-set next x n ∙ h.width;
+      zeros = λ y k m. ap (λ ns. get_or ns y 0) f ∙ get_or-set_other next x y n 0 (λ same. (omega (arith, same, k))) ∙ h.zeros y (omega (arith, k)) m;
+    }
+
+pub IsRowListed-from : (d : ℕ) (rows : List Row) (w w' : WalkView) (key : ℕ) (p next : List ℕ) (x : ℕ) → IsMachine d rows → key < length rows → p ≡ (row_at rows key).perm → IsRowBegun d (length rows) (next_state (states_of rows)) w w' key next x → x ≡ d
+    → IsRowListed d (length rows) (next_state (states_of rows)) (row_output (states_of rows)) w w' key (record { perm = p; next = next })
+IsRowListed-from d rows w w' key p next x m l e h f =
+    let degree : length p ≡ d = ap length e ∙ (row_valid d rows m key l).permutes.degree in
+    let same : take (length p) next ≡ take x next = ap (λ n. take n next) (degree ∙ sym f) in
+    record {
+      listed = IsKeyListed-from d (length rows) (next_state (states_of rows)) (row_output (states_of rows)) w w' key (take x next) x (state_of (record { perm = p; next = next })) h.part f (e ∙ sym (perm_at rows key l)) same;
+      filled = record { degree = degree; width = h.width; zeros = λ y k. h.zeros y (omega (arith, f, k)) };
+    }
+
 -- before the first state
-pub IsListed-start : (d bound : ℕ) (step : ℕ → ℕ → ℕ) (output : ℕ → List ℕ) (start : ℕ) (keys code : List ℕ) → start < bound → keys ≡ start ∷ [] → code ≡ [] → IsListed d bound step output start keys 0 code
-IsListed-start d bound step output start keys code l e f =
+pub IsListed-start : (d bound : ℕ) (step : ℕ → ℕ → ℕ) (output : ℕ → List ℕ) (start : ℕ) (keys : List ℕ) → start < bound → keys ≡ start ∷ [] → IsListed d bound step output start keys 0 []
+IsListed-start d bound step output start keys l e =
     let z : (i : ℕ) → i < length keys → 0 ≡ i = λ i k. omega (arith, ap length e) in
     let at : (i : ℕ) → i < length keys → get_or keys i 0 ≡ start = λ i k. ap (λ j. get_or keys j 0) (sym (z i k)) ∙ ap (λ xs. get_or xs 0 0) e in
     record {
@@ -144,12 +150,9 @@ IsListed-start d bound step output start keys code l e f =
         met = λ i y a b o. elim o [ inl u ↦ absurd (omega (arith, u)) | inr u ↦ absurd (omega (arith, u.1, b.0)) ];
         passed = λ i y k a b o c g. elim o [ inl u ↦ absurd (omega (arith, u)) | inr u ↦ absurd (omega (arith, u.1, b.0)) ];
       };
-      states = [];
       count = refl;
       done = omega arith;
       listed = λ i k. absurd (omega (arith, k));
-      written = f;
-      length_code = omega (arith, ap length f);
     }
 
 IsStateOf-later : (d : ℕ) (step : ℕ → ℕ → ℕ) (output : ℕ → List ℕ) (keys keys' : List ℕ) (key : ℕ) (q : State) → Extends keys keys' → IsStateOf d step output keys key q → IsStateOf d step output keys' key q
@@ -159,45 +162,63 @@ IsStateOf-later d step output keys keys' key q e h = record {
   nexts = λ y l. let n = h.nexts y l in (omega (arith, n.0, e.0), e.1 (get_or q.next y 0) n.0 ∙ n.1);
 }
 
-more_length : (d j n m : ℕ) → n ≡ (d + 1) * j → m ≡ n + (1 + d) → m ≡ (d + 1) * (j + 1)
-more_length d j n m e f = grind (arith, e, f)
-
 -- one more state
-pub IsListed-more : (d bound : ℕ) (step : ℕ → ℕ → ℕ) (output : ℕ → List ℕ) (start : ℕ) (w w' : WalkView) (j key : ℕ) (code code' : List ℕ) → IsListed d bound step output start w.keys j code → j < length w.keys → key ≡ get_or w.keys j 0 → IsKeyListed d bound step output w w' key code code' → IsListed d bound step output start w'.keys (j + 1) code'
-IsListed-more d bound step output start w w' j key code code' h l e m =
+pub IsListed-more : (d bound : ℕ) (step : ℕ → ℕ → ℕ) (output : ℕ → List ℕ) (start : ℕ) (w w' : WalkView) (j key : ℕ) (states : List State) (q : State) → IsListed d bound step output start w.keys j states → j < length w.keys → key ≡ get_or w.keys j 0 → IsKeyListed d bound step output w w' key q → IsListed d bound step output start w'.keys (j + 1) (states ++ q ∷ [])
+IsListed-more d bound step output start w w' j key states q h l e m =
     let z : State = record { perm = []; next = [] } in
-    let qs = h.states ++ m.state ∷ [] in
-    let size : length qs ≡ j + 1 = length_push h.states m.state ∙ ap (λ n. n + 1) h.count in
+    let qs = states ++ q ∷ [] in
     let o = m.ordered start j h.words l (sym e) h.ordered in
-    let f : State → List ℕ = λ q. rank q.perm ∷ map suc q.next in
-    let tail : flat_map f (m.state ∷ []) ≡ f m.state = append-nil (f m.state) in
     record {
       first = m.extends.1 0 h.ordered.some ∙ h.first;
       below = m.below h.below;
       words = o.0;
       ordered = o.1;
-      states = qs;
-      count = size;
+      count = length_push states q ∙ ap (λ n. n + 1) h.count;
       done = omega (arith, l, m.extends.0);
       listed = λ i k. elim (cases_lt i j) [
         | inl t ↦
-            let q : state_at qs i ≡ state_at h.states i = get_or_append_left h.states (m.state ∷ []) z i (omega (arith, t, h.count)) in
-            rw (q, m.extends.1 i (omega (arith, t, l))) (IsStateOf-later d step output w.keys w'.keys (get_or w.keys i 0) (state_at h.states i) m.extends (h.listed i t))
+            let same : state_at qs i ≡ state_at states i = get_or_append_left states (q ∷ []) z i (omega (arith, t, h.count)) in
+            rw (same, m.extends.1 i (omega (arith, t, l))) (IsStateOf-later d step output w.keys w'.keys (get_or w.keys i 0) (state_at states i) m.extends (h.listed i t))
         | inr t ↦
             let at : i ≡ j = omega (arith, k, t) in
-            let q : state_at qs i ≡ m.state = get_or_push h.states m.state z i (h.count ∙ sym at) in
+            let same : state_at qs i ≡ q = get_or_push states q z i (h.count ∙ sym at) in
             let kk : get_or w'.keys i 0 ≡ key = ap (λ n. get_or w'.keys n 0) at ∙ m.extends.1 j l ∙ sym e in
-            rw (q, kk) m.is
+            rw (same, kk) m.is
       ];
-      written = m.written ∙ ap (λ c. c ++ f m.state) h.written ∙ sym (flat_map-append f h.states (m.state ∷ []) ∙ ap (λ t. flat_map f h.states ++ t) tail);
-      length_code = more_length d j (length code) (length code') h.length_code (ap length m.written ∙ length-append code (f m.state) ∙ ap (λ n. length code + n) (ap suc (length-map m.state.next suc ∙ m.is.arity) ∙ omega arith));
     }
+
+-- ---- the code of the states so far
+pub record IsWritten (d bound : ℕ) (step : ℕ → ℕ → ℕ) (output : ℕ → List ℕ) (start : ℕ) (keys : List ℕ) (j : ℕ) (code : List ℕ) : Type 0 where
+  pub states : List State
+  pub listed : IsListed d bound step output start keys j states
+  pub written : code ≡ code_of states
+  pub size : length code ≡ (d + 1) * j
+
+pub code_of-push : (qs : List State) (q : State) → code_of (qs ++ q ∷ []) ≡ code_of qs ++ code_of (q ∷ [])
+code_of-push qs q = flat_map-append (λ q. rank q.perm ∷ map suc q.next) qs (q ∷ [])
+
+pub length-code_of_one : (d : ℕ) (q : State) → length q.next ≡ d → length (code_of (q ∷ [])) ≡ d + 1
+length-code_of_one d q e = ap length (append-nil (rank q.perm ∷ map suc q.next)) ∙ omega (arith, length-map q.next suc, e)
+
+more_length : (d j n m : ℕ) → n ≡ (d + 1) * j → m ≡ n + (d + 1) → m ≡ (d + 1) * (j + 1)
+more_length d j n m e f = grind (arith, e, f)
+
+pub IsWritten-start : (d bound : ℕ) (step : ℕ → ℕ → ℕ) (output : ℕ → List ℕ) (start : ℕ) (keys code : List ℕ) → start < bound → keys ≡ start ∷ [] → code ≡ [] → IsWritten d bound step output start keys 0 code
+IsWritten-start d bound step output start keys code l e f = record { states = []; listed = IsListed-start d bound step output start keys l e; written = f; size = omega (arith, ap length f) }
+
+pub IsWritten-more : (d bound : ℕ) (step : ℕ → ℕ → ℕ) (output : ℕ → List ℕ) (start : ℕ) (w w' : WalkView) (j key : ℕ) (q : State) (code code' : List ℕ) → IsWritten d bound step output start w.keys j code → j < length w.keys → key ≡ get_or w.keys j 0 → IsKeyListed d bound step output w w' key q → code' ≡ code ++ code_of (q ∷ []) → IsWritten d bound step output start w'.keys (j + 1) code'
+IsWritten-more d bound step output start w w' j key q code code' h l e m f = record {
+  states = h.states ++ q ∷ [];
+  listed = IsListed-more d bound step output start w w' j key h.states q h.listed l e m;
+  written = f ∙ ap (λ c. c ++ code_of (q ∷ [])) h.written ∙ sym (code_of-push h.states q);
+  size = more_length d j (length code) (length code') h.size (ap length f ∙ length-append code (code_of (q ∷ [])) ∙ ap (λ n. length code + n) (length-code_of_one d q m.is.arity));
+}
 
 pub walk_is : (qs : List State) (s : ℕ) (v : List ℕ) → walk_after (next_state qs) s v ≡ state_after qs s v
 walk_is qs s [] = refl
 walk_is qs s (x ∷ v) = walk_is qs (next_state qs s x) v
 
-module _ (d : ℕ) (rows : List Row) (m : IsMachine d rows) (others : AreUnlike rows) (s : ℕ) (sl : s < length rows) (keys code : List ℕ) (h : IsListed d (length rows) (next_state (states_of rows)) (row_output (states_of rows)) s keys (length keys) code) (keyed : IsKeys 1024 keys) where
+module _ (d : ℕ) (rows : List Row) (m : IsMachine d rows) (others : AreUnlike rows) (s : ℕ) (sl : s < length rows) (keys : List ℕ) (states : List State) (h : IsListed d (length rows) (next_state (states_of rows)) (row_output (states_of rows)) s keys (length keys) states) (keyed : IsKeys 1024 keys) where
   abbrev ps : List State
   ps = states_of rows
 
@@ -232,25 +253,25 @@ module _ (d : ℕ) (rows : List Row) (m : IsMachine d rows) (others : AreUnlike 
     λ e. same_row _ _ (walk-lt v) (walk-lt w) (alike_trans (alike_sym (section_is v a)) (alike_trans e (section_is w b))),
   )
 
-  nexts : (k x : ℕ) → k < length keys → IsLetter d x → (next_state h.states k x < length keys) × (get_or keys (next_state h.states k x) 0 ≡ next_state ps (get_or keys k 0) x)
+  nexts : (k x : ℕ) → k < length keys → IsLetter d x → (next_state states k x < length keys) × (get_or keys (next_state states k x) 0 ≡ next_state ps (get_or keys k 0) x)
   nexts k zero l a = absurd (omega (arith, a.0))
   nexts k (suc y) l a =
       let q = h.listed k l in
       let n = q.nexts y (omega (arith, a.1)) in
-      let e : get_or (state_at h.states k).next y k ≡ get_or (state_at h.states k).next y 0 = get_or_default (state_at h.states k).next y k 0 (omega (arith, a.1, q.arity)) in
+      let e : get_or (state_at states k).next y k ≡ get_or (state_at states k).next y 0 = get_or_default (state_at states k).next y k 0 (omega (arith, a.1, q.arity)) in
       rw e n
 
-  automaton : IsAutomaton d h.states
-  automaton = All-from_get_or (IsState d (length h.states)) h.states (record { perm = []; next = [] }) (λ k l.
+  automaton : IsAutomaton d states
+  automaton = All-from_get_or (IsState d (length states)) states (record { perm = []; next = [] }) (λ k l.
       let kl : k < length keys = omega (arith, l, h.count) in
       let q = h.listed k kl in
       record {
         permutes = rw q.perm (state_is d ps (get_or keys k 0) auto (below_states _ (h.below k kl))).permutes;
         arity = q.arity;
-        below = All-from_get_or (λ n. n < length h.states) (state_at h.states k).next 0 (λ y m. omega (arith, (q.nexts y (omega (arith, m, q.arity))).0, h.count));
+        below = All-from_get_or (λ n. n < length states) (state_at states k).next 0 (λ y m. omega (arith, (q.nexts y (omega (arith, m, q.arity))).0, h.count));
       })
 
-  outputs : (k x : ℕ) → k < length keys → IsLetter d x → act (Section (row_term rows s) (get_or h.words k [])) (x ∷ []) ≡ image (state_at h.states k).perm x ∷ []
+  outputs : (k x : ℕ) → k < length keys → IsLetter d x → act (Section (row_term rows s) (get_or h.words k [])) (x ∷ []) ≡ image (state_at states k).perm x ∷ []
   outputs k x l a =
       let key = get_or keys k 0 in
       let word = get_or h.words k [] in
@@ -258,17 +279,17 @@ module _ (d : ℕ) (rows : List Row) (m : IsMachine d rows) (others : AreUnlike 
       let own = h.ordered.own k l in
       e ∙ ap (λ i. act (row_term rows i) (x ∷ [])) own ∙ act-state_term d ps key x [] auto (below_states key (h.below k l)) a ∙ ap (λ t. image (state_at ps key).perm x ∷ t) (act-nil (state_term ps (next_state ps key x))) ∙ ap (λ p. image p x ∷ []) (sym (h.listed k l).perm)
 
-  pub IsCanonical-listed : IsCanonical d (row_term rows s) h.states
-  IsCanonical-listed = IsCanonical-walked d (row_term rows s) (next_state ps) s keys h.words h.states h.ordered h.first keyed.distinct one_key automaton h.count outputs nexts
+  pub IsCanonical-listed : IsCanonical d (row_term rows s) states
+  IsCanonical-listed = IsCanonical-walked d (row_term rows s) (next_state ps) s keys h.words states h.ordered h.first keyed.distinct one_key automaton h.count outputs nexts
 
-  pub IsCode-listed : IsCode d (row_term rows s) code
-  IsCode-listed = record { states = h.states; canonical = IsCanonical-listed; written = h.written }
+  pub IsCode-listed : (code : List ℕ) → code ≡ code_of states → IsCode d (row_term rows s) code
+  IsCode-listed code e = record { states = states; canonical = IsCanonical-listed; written = e }
 
--- rows of machines over one alphabet act alike exactly where their codes are equal
-pub codes_tell : (d e : ℕ) (rows others : List Row) (s t : ℕ) (a b : List ℕ) → d ≡ e → IsMachine d rows → IsMachine e others → s < length rows → t < length others → IsCode d (row_term rows s) a → IsCode e (row_term others t) b → (a ≡ b) ↔ IsAlike (row_term rows s) (row_term others t)
-codes_tell d e rows others s t a b de m n sl tl x y =
+-- rows of machines over one alphabet act alike exactly where the code of one is that of the other
+pub code_tells : (d e : ℕ) (rows others : List Row) (s t : ℕ) (a : List ℕ) → d ≡ e → IsMachine d rows → IsMachine e others → s < length rows → t < length others → IsCode d (row_term rows s) a → IsCode e (row_term others t) a ↔ IsAlike (row_term rows s) (row_term others t)
+code_tells d e rows others s t a de m n sl tl x =
     let P : ℕ → Type 0 = λ k. IsMachine k others in
-    let n' = subst P (sym de) n in
-    let Q : ℕ → Type 0 = λ k. IsCode k (row_term others t) b in
-    let y' = subst Q (sym de) y in
-    (alike_from_code d (row_term rows s) (row_term others t) a b (IsTerm-row_term d rows s m sl) (IsTerm-row_term d others t n' tl) x y', code-same d (row_term rows s) (row_term others t) a b x y')
+    let Q : ℕ → Type 0 = λ k. IsCode k (row_term others t) a in (
+      λ y. alike_from_code d (row_term rows s) (row_term others t) a a (IsTerm-row_term d rows s m sl) (IsTerm-row_term d others t (subst P (sym de) n) tl) x (subst Q (sym de) y) refl,
+      λ h. subst Q de (IsCode-alike d (row_term rows s) (row_term others t) a h x),
+    )

@@ -1,5 +1,5 @@
 -- States in order, no two of which act alike, are the canonical numbering of the first.
-use Rattle.std.proofs.Common.{ℕ, zero, suc, ◌≡◌, ◌≢◌, ◌+◌, ◌-◌, ◌*◌, ◌<◌, ◌≤◌, inl, inr, List, [], ◌∷◌, ◌++◌, length, take, get_or, refl, sym, ◌∙◌, ap, subst, arith}
+use Rattle.std.proofs.Common.{ℕ, zero, suc, ◌≡◌, ◌≢◌, ◌+◌, ◌-◌, ◌<◌, ◌≤◌, inl, inr, List, [], ◌∷◌, ◌++◌, length, take, get_or, refl, sym, ◌∙◌, ap, subst, arith}
 use Rattle.std.specs.Prelude.{max}
 use Rattle.std.specs.List.{Contains}
 use Rattle.std.proofs.lemmas.List.{get_or_default, take_more, take_all}
@@ -8,7 +8,7 @@ use Rattle.std.proofs.lemmas.Bool.{cases_lt}
 use Rattle.fr_model.specs.Words.{IsLetter}
 use Rattle.fr_model.specs.Permutations.{numbers_from}
 use Rattle.fr_model.specs.Automata.{State, state_at, next_state, IsState, IsAutomaton}
-use Rattle.fr_model.specs.Canonical.{IsCanonical, code_of}
+use Rattle.fr_model.specs.Canonical.{IsCanonical}
 use Rattle.fr_model.proofs.PermutationLaws.{get_or-numbers_from, length-numbers_from}
 use Rattle.fr_machine.specs.declared.row.Row.{Row}
 use Rattle.fr_machine.specs.Rows.{IsMachine, row_term, states_of}
@@ -22,7 +22,6 @@ use Rattle.fr_canon.specs.Listings.{row_output, IsListed}
 use Rattle.fr_canon.specs.Texts.{machine_text}
 use Rattle.fr_canon.specs.Readings.{met_before, IsInOrder, IsFirstRepeated, IsMachineText}
 use Rattle.fr_canon.proofs.ListingLaws.{IsListed-start, IsCanonical-listed, walk_is}
-use Rattle.fr_canon.proofs.PrintLaws.{code_of-length}
 use Rattle.fr_canon.proofs.OrderReadLaws.{met_with, greatest-le, numbered_from, met_before-more, IsOrderRead, IsOrderRead-start, IsOrderRead-more, met_with-push}
 
 numbers_from-push : (k n : ℕ) → numbers_from k (suc n) ≡ numbers_from k n ++ (k + n) ∷ []
@@ -87,7 +86,7 @@ module _ (d : ℕ) (qs : List State) (auto : IsAutomaton d qs) (some : 1 ≤ len
       subst Q one (subst P count more)
 
   walked : (k : ℕ) → k ≤ length qs → (c : ℕ) × IsOrderRead qs k c × IsWalk d qs c k 1
-  walked zero l = let start = IsListed-start d (length qs) (next_state qs) (row_output qs) 0 (0 ∷ []) [] some refl refl in (1, IsOrderRead-start qs some, (start.words, start.ordered))
+  walked zero l = let start = IsListed-start d (length qs) (next_state qs) (row_output qs) 0 (0 ∷ []) some refl in (1, IsOrderRead-start qs some, (start.words, start.ordered))
   walked (suc k) l =
       let r = walked k (omega (arith, l)) in
       let c = r.0 in
@@ -156,12 +155,11 @@ module _ (d : ℕ) (rows : List Row) (m : IsMachine d rows) (few : length rows �
   pub IsCanonical-read : AreUnlike rows → IsCanonical d (row_term rows 0) (states_of rows)
   IsCanonical-read others =
       let P : ℕ → Type 0 = λ j. IsOrdered d (next_state qs) 0 (numbers_from 0 n) walk.0 j 1 in
-      let h : IsListed d n (next_state qs) (row_output qs) 0 (numbers_from 0 n) (length (numbers_from 0 n)) (code_of qs) = record {
+      let h : IsListed d n (next_state qs) (row_output qs) 0 (numbers_from 0 n) (length (numbers_from 0 n)) qs = record {
         first = key n 0 (omega (arith, m.least));
         below = λ i l. omega (arith, l, keys, key n i (omega (arith, l, keys)));
         words = walk.0;
         ordered = subst P (sym keys) walk.1;
-        states = qs;
         count = size ∙ sym keys;
         done = omega arith;
         listed = λ i l.
@@ -177,13 +175,8 @@ module _ (d : ℕ) (rows : List Row) (m : IsMachine d rows) (few : length rows �
                   let below : get_or xs y 0 < length qs = All-get_or (λ k. k < length qs) xs y 0 c s.below in
                   (omega (arith, below, size, keys), key n (get_or xs y 0) (omega (arith, below, size)) ∙ get_or_default xs y 0 i c ∙ ap (λ k. next_state qs k (suc y)) (sym at));
             };
-        written = refl;
-        length_code = code_of-length d qs (length qs) automaton ∙ ap (λ k. k * (d + 1)) (size ∙ sym keys) ∙ times (length (numbers_from 0 n)) (d + 1);
       } in
-      IsCanonical-listed d rows m others 0 (omega (arith, m.least)) (numbers_from 0 n) (code_of qs) h keyed
-    where
-      times : (i j : ℕ) → i * j ≡ j * i
-      times i j = grind arith
+      IsCanonical-listed d rows m others 0 (omega (arith, m.least)) (numbers_from 0 n) qs h keyed
 
 -- ---- classes that are their own places
 pub unlike_from_classes : (rows : List Row) (of : List ℕ) → AreClasses rows of → ((i : ℕ) → i < length of → get_or of i 0 ≡ i) → AreUnlike rows

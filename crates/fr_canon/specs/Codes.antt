@@ -1,10 +1,5 @@
--- The list of numbers in a table that is taken once, and the hash of a code: this project's own.
-use Rattle.std.specs.Prelude.{ℕ, ◌≡◌, ◌≤◌, ◌+◌, ◌*◌, ◌/◌, ◌%◌, List, [], ◌∷◌, length}
-
--- a table of which the first numbers count
-pub record IsCodeTable (table : List ℕ) (count : ℕ) : Type 0 where
-  pub size : length table ≡ 9216
-  pub few : count ≤ 9216
+-- The hash of a code: this project's own.
+use Rattle.std.specs.Prelude.{ℕ, ◌+◌, ◌*◌, ◌/◌, ◌%◌, List, [], ◌∷◌}
 
 -- the hash of the numbers, after those that gave h
 abbrev pub hash_from : ℕ → List ℕ → ℕ

@@ -1,5 +1,6 @@
 pub mod Codes
 pub mod Listings
+pub mod Walked
 pub mod Texts
 pub mod Readings
 pub mod CycleScans

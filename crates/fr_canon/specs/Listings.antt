@@ -1,9 +1,8 @@
--- States that a walk lists in order, and the code of the states so far: how the canonical numbering is made. This
--- project's own.
-use Rattle.std.specs.Prelude.{ℕ, suc, ◌≡◌, ◌<◌, ◌≤◌, ◌+◌, ◌*◌, List, [], ◌∷◌, ◌++◌, length, map, slice_index}
+-- States that a walk lists in order: how the canonical numbering is made. This project's own.
+use Rattle.std.specs.Prelude.{ℕ, suc, ◌≡◌, ◌<◌, ◌≤◌, ◌+◌, List, length, slice_index}
 use Rattle.fr_model.specs.Automata.{State, state_at}
-use Rattle.fr_model.specs.Canonical.{code_of}
-use Rattle.fr_model.specs.Ranks.{rank}
+use Rattle.fr_machine.specs.declared.row.Row.{Row}
+use Rattle.fr_machine.specs.Rows.{state_of}
 use Rattle.fr_machine.specs.Walks.{WalkView, Extends}
 use Rattle.fr_machine.proofs.OrderLaws.{IsOrdered}
 
@@ -25,31 +24,30 @@ pub record IsStateOf (d : ℕ) (step : ℕ → ℕ → ℕ) (output : ℕ → Li
   pub arity : length q.next ≡ d
   pub nexts : (y : ℕ) → y < d → (slice_index q.next y < length keys) × (slice_index keys (slice_index q.next y) ≡ step key (suc y))
 
--- a key whose state is written behind the code
-pub record IsKeyListed (d bound : ℕ) (step : ℕ → ℕ → ℕ) (output : ℕ → List ℕ) (w w' : WalkView) (key : ℕ) (code code' : List ℕ) : Type 0 where
+-- a key whose next states are numbered, and its state
+pub record IsKeyListed (d bound : ℕ) (step : ℕ → ℕ → ℕ) (output : ℕ → List ℕ) (w w' : WalkView) (key : ℕ) (q : State) : Type 0 where
   pub extends : Extends w.keys w'.keys
   pub below : ((i : ℕ) → i < length w.keys → slice_index w.keys i < bound) → (i : ℕ) → i < length w'.keys → slice_index w'.keys i < bound
-  pub state : State
-  pub is : IsStateOf d step output w'.keys key state
+  pub is : IsStateOf d step output w'.keys key q
   pub ordered : (start j : ℕ) (words : List (List ℕ)) → j < length w.keys → slice_index w.keys j ≡ key → IsOrdered d step start w.keys words j 1 → (words' : List (List ℕ)) × IsOrdered d step start w'.keys words' (j + 1) 1
-  pub written : code' ≡ code ++ rank state.perm ∷ map suc state.next
 
--- a walk whose first keys have their states in the code
-pub record IsListed (d bound : ℕ) (step : ℕ → ℕ → ℕ) (output : ℕ → List ℕ) (start : ℕ) (keys : List ℕ) (j : ℕ) (code : List ℕ) : Type 0 where
+-- a row with room for eight next rows, and zeros past the letters
+pub record IsFilled (d : ℕ) (r : Row) : Type 0 where
+  pub degree : length r.perm ≡ d
+  pub width : length r.next ≡ 8
+  pub zeros : (x : ℕ) → d ≤ x → x < 8 → slice_index r.next x ≡ 0
+
+-- the same with the state as a row
+pub record IsRowListed (d bound : ℕ) (step : ℕ → ℕ → ℕ) (output : ℕ → List ℕ) (w w' : WalkView) (key : ℕ) (r : Row) : Type 0 where
+  pub listed : IsKeyListed d bound step output w w' key (state_of r)
+  pub filled : IsFilled d r
+
+-- a walk, and the states of its first keys
+pub record IsListed (d bound : ℕ) (step : ℕ → ℕ → ℕ) (output : ℕ → List ℕ) (start : ℕ) (keys : List ℕ) (j : ℕ) (states : List State) : Type 0 where
   pub first : slice_index keys 0 ≡ start
   pub below : (i : ℕ) → i < length keys → slice_index keys i < bound
   pub words : List (List ℕ)
   pub ordered : IsOrdered d step start keys words j 1
-  pub states : List State
   pub count : length states ≡ j
   pub done : j ≤ length keys
   pub listed : (i : ℕ) → i < j → IsStateOf d step output keys (slice_index keys i) (state_at states i)
-  pub written : code ≡ code_of states
-  pub length_code : length code ≡ (d + 1) * j
-
--- a key whose first next states are written behind the code
-pub record IsKeyPart (d bound : ℕ) (step : ℕ → ℕ → ℕ) (output : ℕ → List ℕ) (w w' : WalkView) (key : ℕ) (code code' : List ℕ) (x : ℕ) : Type 0 where
-  pub next : List ℕ
-  pub part : IsNextPart d bound step w w' key next x
-  pub written : code' ≡ (code ++ rank (output key) ∷ []) ++ map suc next
-  pub size : length code' ≡ length code + 1 + x

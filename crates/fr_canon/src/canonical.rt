@@ -1,27 +1,26 @@
-//! The canonical numbering of an element, as a breadth-first walk with letters in order meets its sections, and its
-//! code. This project's own, on the pattern of the standard numbering of a minimal automaton.
+//! The canonical numbering of an element, as a breadth-first walk with letters in order meets its sections, its machine
+//! and its code. This project's own, on the pattern of the standard numbering of a minimal automaton.
 
-ghost use Rattle.std.specs.Prelude.{◌≡◌, ℕ, ◌<◌, ◌≤◌, ◌+◌, ◌↔◌, List, [], ◌∷◌, IsTrue, length};
-ghost use Rattle.fr_machine.specs.Rows.{IsMachine, row_term, states_of};
-ghost use Rattle.fr_machine.specs.Minimal.{AreUnlike};
-ghost use Rattle.fr_model.specs.Words.{IsLetter};
+ghost use Rattle.std.specs.Prelude.{◌≡◌, ℕ, ◌<◌, ◌≤◌, ◌+◌, ◌*◌, ◌↔◌, ◌++◌, List, [], ◌∷◌, IsTrue, IfOk, length, take, drop};
+ghost use Rattle.fr_machine.specs.Rows.{IsMachine, state_of, states_of, row_term};
+ghost use Rattle.fr_machine.specs.Minimal.{AreUnlike, IsMinimal};
 ghost use Rattle.fr_model.specs.Terms.{Term, IsAlike};
 ghost use Rattle.fr_model.specs.Automata.{next_state};
-ghost use Rattle.fr_model.specs.Canonical.{IsCode};
-ghost use Rattle.fr_canon.specs.Listings.{IsKeyListed, row_output};
+ghost use Rattle.fr_model.specs.Classes.{IsSize};
+ghost use Rattle.fr_model.specs.Canonical.{IsCanonical, IsCode, code_of};
+ghost use Rattle.fr_canon.specs.Listings.{IsRowListed, row_output};
 
 use crate::code::Code;
 use fr_alphabet::{Alphabet, NoMemory};
-use fr_machine::{FixedWalk, Minimal, Row};
+use fr_machine::{FixedWalk, Machine, Minimal, Row};
 use std::alloc::Global;
 
-/// Room for walks over 1,024 rows, and for two codes. It is taken once; what a call leaves in it has no effect on
-/// later calls.
+/// Room for walks over 1,024 rows, and for a code. It is taken once; what a call leaves in it has no effect on later
+/// calls.
 #[derive(Debug, Drop)]
 pub struct Scratch {
     walk: FixedWalk,
-    first: Code,
-    second: Code,
+    code: Code,
 }
 
 impl Scratch {
@@ -29,40 +28,65 @@ impl Scratch {
     pub fn new(alloc: Global) -> Result<Scratch, NoMemory> {
         Ok(Scratch {
             walk: FixedWalk::new(alloc)?,
-            first: Code::new(alloc)?,
-            second: Code::new(alloc)?,
+            code: Code::new(alloc)?,
         })
     }
 }
 
-// The next row at a letter.
-fn next_of(a: Alphabet, rows: &[Row], s: u16, x: u8) -> u16
-    requires machine { IsMachine a rows.now }
-    requires row { s < length rows.now }
-    requires letter { IsLetter a x }
-    ensures row { result < length rows.now }
-    ensures value { result ≡ next_state (states_of rows.now) s x }
-{
-    let row = rows[s as usize];
-    row.next[x as usize - 1]
-}
-
-// Writes the state of a key behind the code, and numbers its next states.
-fn list_key(walk: &mut FixedWalk, a: Alphabet, rows: &[Row], key: u16, out: &mut Code)
+// The row of a key with its next rows by their numbers, which they have from now on.
+fn list_row(walk: &mut FixedWalk, a: Alphabet, rows: &[Row], key: u16) -> Row
     requires machine { IsMachine a rows.now }
     requires row { key < length rows.now }
     requires few { length rows.now ≤ 1024 }
-    requires room { length out.old + a + 1 ≤ 9216 }
-    ensures { IsKeyListed a (length rows.now) (next_state (states_of rows.now)) (row_output (states_of rows.now)) walk.old walk.new key out.old out.new }
+    ensures { IsRowListed a (length rows.now) (next_state (states_of rows.now)) (row_output (states_of rows.now)) walk.old walk.new key result }
 {
-    let d = a.letters();
-    out.push(rows[key as usize].perm.rank());
-    for x in 0..d {
-        let target = next_of(a, rows, key, x + 1);
+    let row = &rows[key as usize];
+    let mut next = [0; 8];
+    for x in 0..a.letters() {
+        let target = row.next[x as usize];
         let number = walk.number(target);
-        let _count = walk.count();
-        out.push(number as u32 + 1);
+
+        // For the proof: no two keys are equal.
+        let _met = walk.count();
+        next[x as usize] = number;
     }
+    Row {
+        perm: row.perm,
+        next,
+    }
+}
+
+// Writes the state of a row behind the code.
+fn push_state(out: &mut Code, a: Alphabet, row: &Row)
+    requires degree { length row.now.perm ≡ a }
+    requires width { length row.now.next ≡ 8 }
+    requires room { length out.old + a + 1 ≤ 9216 }
+    ensures { out.new ≡ out.old ++ code_of (state_of row.now ∷ []) }
+{
+    out.push(row.perm.rank());
+    for x in 0..a.letters() {
+        out.push(row.next[x as usize] as u32 + 1);
+    }
+}
+
+// Whether the state of a row is what stands in a code at a place.
+fn has_state(code: &Code, start: usize, a: Alphabet, row: &Row) -> bool
+    requires degree { length row.now.perm ≡ a }
+    requires width { length row.now.next ≡ 8 }
+    requires start { start ≤ 9216 }
+    ensures { IsTrue result ↔ (take (a + 1) (drop start code.now) ≡ code_of (state_of row.now ∷ [])) }
+{
+    let numbers = code.numbers();
+    let letters = a.letters() as usize;
+    if start + letters >= numbers.len() || numbers[start] != row.perm.rank() {
+        return false;
+    }
+    for x in 0..letters {
+        if numbers[start + x + 1] != row.next[x] as u32 + 1 {
+            return false;
+        }
+    }
+    true
 }
 
 // A walk of which nothing is known but a first key.
@@ -87,9 +111,117 @@ fn list_code(walk: &mut FixedWalk, a: Alphabet, rows: &[Row], s: u16, out: &mut 
     let mut done = 0;
     while done < walk.count() {
         let key = walk.key(done);
-        list_key(walk, a, rows, key, out);
+        let row = list_row(walk, a, rows, key);
+        push_state(out, a, &row);
         done += 1;
     }
+}
+
+// Whether a code is that of a row, by a breadth-first walk from it that ends where the two differ.
+fn check_code(walk: &mut FixedWalk, a: Alphabet, rows: &[Row], s: u16, code: &Code) -> bool
+    requires machine { IsMachine a rows.now }
+    requires few { length rows.now ≤ 1024 }
+    requires unlike { AreUnlike rows.now }
+    requires row { s < length rows.now }
+    ensures { IsTrue result ↔ IsCode a (row_term rows.now s) code.now }
+{
+    begin(walk, s);
+    let width = a.letters() as usize + 1;
+    let mut done = 0;
+    while done < walk.count() {
+        let key = walk.key(done);
+        let row = list_row(walk, a, rows, key);
+
+        // For the proof: no two keys are equal.
+        let _met = walk.count();
+        if !has_state(code, done as usize * width, a, &row) {
+            return false;
+        }
+        done += 1;
+    }
+    code.numbers().len() == done as usize * width
+}
+
+// The rows of the canonical numbering of a row, by a breadth-first walk from it.
+fn list_rows(
+    alloc: Global,
+    walk: &mut FixedWalk,
+    a: Alphabet,
+    rows: &[Row],
+    s: u16,
+) -> Result<Vec<Row>, NoMemory>
+    requires machine { IsMachine a rows.now }
+    requires few { length rows.now ≤ 1024 }
+    requires unlike { AreUnlike rows.now }
+    requires row { s < length rows.now }
+    ensures canonical { IfOk result (λ found. IsCanonical a (row_term rows.now s) (states_of found.items)) }
+    ensures minimal { IfOk result (λ found. IsMinimal a found.items) }
+{
+    begin(walk, s);
+    let mut found = Vec::new(alloc);
+    let mut done = 0;
+    while done < walk.count() {
+        let key = walk.key(done);
+        found.push(list_row(walk, a, rows, key))?;
+        done += 1;
+    }
+    Ok(found)
+}
+
+/// How many sections row `s` has, up to acting alike: as many as its canonical numbering has states, 1 to 1,024. The rows
+/// meet what `canon_rows` asks. This takes no memory.
+pub fn count_states(scratch: &mut Scratch, a: Alphabet, rows: &[Row], s: u16) -> u16
+    requires machine { IsMachine a rows.now }
+    requires few { length rows.now ≤ 1024 }
+    requires unlike { AreUnlike rows.now }
+    requires row { s < length rows.now }
+    ensures size { (t : Term) → IsAlike (row_term rows.now s) t → IsSize a t result }
+    ensures most { result ≤ 1024 }
+{
+    let walk = &mut scratch.walk;
+    begin(walk, s);
+    let mut done = 0;
+    while done < walk.count() {
+        let key = walk.key(done);
+        list_row(walk, a, rows, key);
+        done += 1;
+    }
+    done
+}
+
+/// The machine of row `s`, with its rows in the order of the canonical numbering. The rows meet what `canon_rows` asks. The
+/// only error is want of memory.
+pub fn canonical_machine(
+    alloc: Global,
+    scratch: &mut Scratch,
+    a: Alphabet,
+    rows: &[Row],
+    s: u16,
+) -> Result<Minimal, NoMemory>
+    requires machine { IsMachine a rows.now }
+    requires few { length rows.now ≤ 1024 }
+    requires unlike { AreUnlike rows.now }
+    requires row { s < length rows.now }
+    ensures alphabet { IfOk result (λ m. m.alphabet ≡ a) }
+    ensures canonical { IfOk result (λ m. IsCanonical a (row_term rows.now s) (states_of m.rows)) }
+
+    // It is the machine of each term that acts alike.
+    ensures alike { IfOk result (λ m. (t : Term) → IsAlike (row_term rows.now s) t → IsCanonical a t (states_of m.rows)) }
+{
+    let found = list_rows(alloc, &mut scratch.walk, a, rows, s)?;
+    Ok(Minimal::of(Machine::from_rows(a, found)))
+}
+
+/// Whether the code is that of row `s` of rows that meet what `canon_rows` asks. The code is compared state by state, up to
+/// the first that differs. This takes no memory.
+pub fn has_code(scratch: &mut Scratch, a: Alphabet, rows: &[Row], s: u16, code: &Code) -> bool
+    requires machine { IsMachine a rows.now }
+    requires few { length rows.now ≤ 1024 }
+    requires unlike { AreUnlike rows.now }
+    requires row { s < length rows.now }
+    ensures { IsTrue result ↔ IsCode a (row_term rows.now s) code.now }
+{
+    check_code(&mut scratch.walk, a, rows, s, code)
 }
 
 /// Makes `out` the code of row `s` of rows that lie in no `Minimal`: the code of the canonical numbering of its
@@ -138,14 +270,7 @@ pub fn alike(scratch: &mut Scratch, a: &Minimal, s: u16, b: &Minimal, t: u16) ->
         a.alphabet(),
         a.rows(),
         s,
-        &mut scratch.first,
+        &mut scratch.code,
     );
-    list_code(
-        &mut scratch.walk,
-        b.alphabet(),
-        b.rows(),
-        t,
-        &mut scratch.second,
-    );
-    scratch.first.is_equal(&scratch.second)
+    check_code(&mut scratch.walk, b.alphabet(), b.rows(), t, &scratch.code)
 }

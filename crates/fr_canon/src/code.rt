@@ -1,6 +1,6 @@
 //! Codes: lists of numbers that tell elements apart, and the hash by which a table finds them. This project's own.
 
-ghost use Rattle.std.specs.Prelude.{ℕ, ◌≡◌, ◌<◌, ◌≤◌, ◌^◌, [], ◌∷◌, ◌++◌, ◌↔◌, IsTrue, IfOk, length};
+ghost use Rattle.std.specs.Prelude.{ℕ, ◌≡◌, ◌<◌, ◌≤◌, ◌^◌, [], ◌∷◌, ◌++◌, IfOk, length};
 ghost use Rattle.fr_canon.specs.Codes.{home_of};
 
 use fr_alphabet::NoMemory;
@@ -12,20 +12,18 @@ use std::marker::Model;
 /// all of them is taken once.
 #[derive(Debug, Drop)]
 pub struct Code {
-    table: Vec<u32>,
-    count: usize,
+    numbers: Vec<u32>,
 }
 
 // Clauses see the list.
 impl Model for Code {
-    ghost use Rattle.std.specs.Prelude.{ℕ, List, take};
-    ghost use Rattle.fr_canon.specs.Codes.{IsCodeTable};
+    ghost use Rattle.std.specs.Prelude.{ℕ, ◌≤◌, List, length, vec_capacity};
 
     ghost Value = { List ℕ };
 
-    ghost view = { λ c. take c.count c.table.items };
+    ghost view = { λ c. c.numbers.items };
 
-    ghost invariant = { λ c. IsCodeTable c.table.items c.count };
+    ghost invariant = { λ c. (length c.numbers.items ≤ 9216) × (9216 ≤ vec_capacity c.numbers) };
 }
 
 impl Code {
@@ -34,8 +32,7 @@ impl Code {
         ensures { IfOk result (λ c. c ≡ []) }
     {
         Ok(Code {
-            table: vec![in alloc; 0u32; 9216]?,
-            count: 0,
+            numbers: Vec::with_capacity(alloc, 9216)?,
         })
     }
 
@@ -44,21 +41,14 @@ impl Code {
         ensures value { result.now ≡ self.now }
         ensures most { length self.now ≤ 9216 }
     {
-        &self.table[..self.count]
-    }
-
-    // Whether both lists are equal.
-    pub(crate) fn is_equal(&self, other: &Code) -> bool
-        ensures { IsTrue result ↔ (self.now ≡ other.now) }
-    {
-        self.numbers() == other.numbers()
+        &self.numbers
     }
 
     // No numbers, from now on.
     pub(crate) fn clear(&mut self)
         ensures { self.new ≡ [] }
     {
-        self.count = 0;
+        self.numbers.clear();
     }
 
     // One number more.
@@ -66,8 +56,7 @@ impl Code {
         requires { length self.old < 9216 }
         ensures { self.new ≡ self.old ++ number ∷ [] }
     {
-        self.table[self.count] = number;
-        self.count += 1;
+        self.numbers.push_reserved(number);
     }
 }
 

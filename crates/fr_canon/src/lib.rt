@@ -15,7 +15,7 @@ mod reading;
 #[cfg(test)]
 mod tests;
 
-pub use canonical::{Scratch, alike, canon, canon_rows};
+pub use canonical::{Scratch, alike, canon, canon_rows, canonical_machine, count_states, has_code};
 pub use code::{Code, home};
 pub use fault::ReadFault;
 pub use printing::print_machine;

@@ -23,6 +23,13 @@ fn elements_have_their_codes_and_homes(rt: HostRuntime) -> Result<(), Fail> {
     assert_eq!(rt; code.numbers(), &[0, 1, 1][..]);
     assert_eq!(rt; home(&code, 8), 0);
     assert_eq!(rt; home(&code, 2097152), (4088273985u32 / 128) % 2097152);
+    let rows = b.machine().rows();
+    assert!(rt; has_code(&mut scratch, a, rows, 3, &code));
+    assert!(rt; !has_code(&mut scratch, a, rows, 1, &code));
+    assert_eq!(rt; count_states(&mut scratch, a, rows, 1), 2);
+    let exchange = canonical_machine(rt.alloc(), &mut scratch, a, rows, 1)?;
+    assert_eq!(rt; exchange.machine().rows()[0].next, [1, 1, 0, 0, 0, 0, 0, 0]);
+    assert!(rt; alike(&mut scratch, &b, 1, &exchange, 0));
     assert!(rt; alike(&mut scratch, &b, 2, &b, 2));
     assert!(rt; !alike(&mut scratch, &b, 0, &b, 2));
     Ok(())

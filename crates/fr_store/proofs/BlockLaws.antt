@@ -10,9 +10,9 @@ use Rattle.fr_machine.specs.declared.row.Row.{Row}
 use Rattle.fr_machine.specs.Rows.{row_term, IsMachine}
 use Rattle.fr_machine.specs.Minimal.{AreUnlike, IsMinimal}
 use Rattle.fr_store.specs.declared.blocks.Place.{Place}
-use Rattle.fr_store.specs.Walked.{row_code}
-use Rattle.fr_store.specs.Blocks.{place_at, block, code_at, IsPlaced, AreBlocks}
-use Rattle.fr_store.proofs.WalkedLaws.{IsCode-row_code, length-row_code}
+use Rattle.fr_canon.specs.Walked.{row_code}
+use Rattle.fr_store.specs.Blocks.{place_at, block, code_at, element_at, IsPlaced, AreBlocks}
+use Rattle.fr_canon.proofs.WalkedLaws.{IsCode-row_code, length-row_code}
 
 pub length-block : (d : ℕ) (rows : List Row) (places : List Place) (r : ℕ) (p : Place) → IsPlaced d rows places r p → length (block rows p) ≡ p.size
 length-block d rows places r p h = length-take-le p.size (drop p.start rows) (let n = length-drop p.start rows in omega (arith, n, h.within))
@@ -41,6 +41,10 @@ code_at-only d rows places r shown s out h e f only =
 
 pub read_place : (d : ℕ) (rows : List Row) (places : List Place) (r : ℕ) (p : Place) → AreBlocks d rows places → r < length rows → p ≡ get_or places r p → p ≡ place_at places r
 read_place d rows places r p a l e = e ∙ get_or_default places r p (record { start = 0; size = 0 }) (let n = a.as_many in omega (arith, n, l))
+
+-- a row in what is shown of its block
+pub element_is : (rows : List Row) (places : List Place) (r : ℕ) (shown : List Row) (p : Place) → shown ≡ block rows (place_at places r) → p ≡ place_at places r → row_term shown (r - p.start) ≡ element_at rows places r
+element_is rows places r shown p e f = ap (λ rs. row_term rs (r - p.start)) e ∙ ap (λ (q : Place). row_term (block rows (place_at places r)) (r - q.start)) f
 
 -- ---- a block more
 module _ (d : ℕ) (rows : List Row) (places : List Place) (a : AreBlocks d rows places) (new : List Row) (m : IsMinimal d new) where

@@ -12,11 +12,11 @@ use Rattle.fr_machine.specs.Rows.{row_term, states_of}
 use Rattle.fr_machine.specs.Minimal.{IsMinimal}
 use Rattle.fr_machine.proofs.RowLaws.{IsAutomaton-states_of, length-states_of}
 use Rattle.fr_store.specs.declared.blocks.Place.{Place}
-use Rattle.fr_store.specs.Walked.{row_code}
+use Rattle.fr_canon.specs.Walked.{row_code}
 use Rattle.fr_store.specs.Blocks.{code_at, AreBlocks}
 use Rattle.fr_store.specs.Index.{IsIndex, IsTable, IsLinked}
 use Rattle.fr_store.specs.Entered.{IsEntered}
-use Rattle.fr_store.proofs.WalkedLaws.{IsCode-row_code}
+use Rattle.fr_canon.proofs.WalkedLaws.{IsCode-row_code}
 use Rattle.fr_store.proofs.BlockLaws.{code_at-old, code_at-new}
 use Rattle.fr_store.proofs.IndexLaws.{handle-lt_rows, IsIndex-wider}
 use Rattle.fr_store.proofs.TableLaws.{IsTable-wider}

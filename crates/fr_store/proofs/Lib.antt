@@ -1,12 +1,9 @@
 pub mod StoreLaws
-pub mod ApartLaws
-pub mod WalkedLaws
 pub mod BlockLaws
 pub mod IndexLaws
 pub mod TableLaws
 pub mod ReenterLaws
 pub mod VecLaws
 pub mod EnterLaws
-pub mod RebuildLaws
 pub mod PairLaws
 pub mod ProductLaws

@@ -15,7 +15,7 @@ use Rattle.fr_machine.specs.declared.row.Row.{Row}
 use Rattle.fr_machine.specs.Rows.{IsMachine, row_term, states_of}
 use Rattle.fr_machine.specs.Minimal.{AreUnlike}
 use Rattle.fr_machine.proofs.RowLaws.{IsAutomaton-states_of, length-states_of}
-use Rattle.fr_store.proofs.ApartLaws.{length-le_apart}
+use Rattle.fr_canon.proofs.ApartLaws.{length-le_apart}
 
 -- ---- words that lead to each key
 module _ (d bound : ℕ) (key : List ℕ → ℕ) (below : (w : List ℕ) → IsWord d w → key w < bound)

@@ -5,7 +5,7 @@ use Rattle.std.proofs.lemmas.Bool.{cases_eq, cases_lt, cases_order}
 use Rattle.std.proofs.lemmas.List.{get_or-map, length-map, length-set, get_or-set_same, get_or-set_other, length_push}
 use Rattle.fr_canon.specs.Codes.{home_of}
 use Rattle.fr_store.specs.Index.{holds, cell_at, met_at, AreDistinct, IsNew, IsTable, IsPassed, IsGap, IsGiven}
-use Rattle.fr_store.proofs.ApartLaws.{length-le_apart}
+use Rattle.fr_canon.proofs.ApartLaws.{length-le_apart}
 use Rattle.fr_store.proofs.IndexLaws.{holds_push, holds_push_new, holds_push_only, handle-lt_rows, AreDistinct-push}
 
 less_one : (n : ℕ) → n + 1 - 1 ≡ n

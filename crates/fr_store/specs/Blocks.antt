@@ -1,11 +1,12 @@
 -- Rows in blocks, one block behind the other, and the codes of rows. A block is a machine of its own. This project's own.
 use Rattle.std.specs.Prelude.{ℕ, ◌≡◌, ◌+◌, ◌-◌, ◌<◌, ◌≤◌, List, length, take, drop, slice_index_or}
 use Rattle.fr_machine.specs.declared.row.Row.{Row}
+use Rattle.fr_model.specs.Terms.{Term}
 use Rattle.fr_model.specs.Automata.{next_state}
-use Rattle.fr_machine.specs.Rows.{IsMachine, states_of}
+use Rattle.fr_machine.specs.Rows.{IsMachine, row_term, states_of}
 use Rattle.fr_machine.specs.Minimal.{AreUnlike}
 use Rattle.fr_store.specs.declared.blocks.Place.{Place}
-use Rattle.fr_store.specs.Walked.{row_code}
+use Rattle.fr_canon.specs.Walked.{row_code}
 
 -- the place of a row
 abbrev pub place_at : List Place → ℕ → Place
@@ -18,6 +19,10 @@ block rows p = take p.size (drop p.start rows)
 -- the code of a row
 unfoldable pub code_at : ℕ → List Row → List Place → ℕ → List ℕ
 code_at d rows places r = row_code d (block rows (place_at places r)) (r - (place_at places r).start)
+
+-- the element of a row
+abbrev pub element_at : List Row → List Place → ℕ → Term
+element_at rows places r = row_term (block rows (place_at places r)) (r - (place_at places r).start)
 
 -- the row that a row leads to at a letter
 abbrev pub next_at : List Row → List Place → ℕ → ℕ → ℕ

@@ -1,11 +1,9 @@
 pub mod Store
 pub mod Through
-pub mod Walked
 pub mod Blocks
 pub mod Coded
 pub mod Index
 pub mod Props
-pub mod Rebuilt
 pub mod Entered
 pub mod Products
 pub mod VecView

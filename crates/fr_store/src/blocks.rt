@@ -1,16 +1,19 @@
 //! Rows in blocks, one block behind the other.
 
-ghost use Rattle.std.specs.Prelude.{◌≡◌, ◌+◌, ◌-◌, ◌<◌, ◌≤◌, ◌^◌, [], ◌++◌, IfOk, length, replicate, vec_len, vec_capacity};
+ghost use Rattle.std.specs.Prelude.{◌≡◌, ◌↔◌, ◌+◌, ◌-◌, ◌<◌, ◌≤◌, ◌^◌, [], ◌++◌, IsTrue, IfOk, length, replicate, vec_len, vec_capacity};
 ghost use Rattle.fr_model.specs.Words.{IsLetter};
+ghost use Rattle.fr_model.specs.Terms.{Term, IsAlike};
 ghost use Rattle.fr_model.specs.Automata.{next_state, state_at};
+ghost use Rattle.fr_model.specs.Classes.{IsSize};
+ghost use Rattle.fr_model.specs.Canonical.{IsCanonical};
 ghost use Rattle.fr_machine.specs.Rows.{IsMachine, states_of};
 ghost use Rattle.fr_machine.specs.Minimal.{IsMinimal};
 ghost use Rattle.std.proofs.Props.{props};
 ghost use Rattle.fr_store.specs.Props.{IsWord-IsProp};
-ghost use Rattle.fr_store.specs.Blocks.{AreBlocks, IsPlaced, code_at, place_at, block, next_at};
+ghost use Rattle.fr_store.specs.Blocks.{AreBlocks, IsPlaced, code_at, element_at, place_at, block, next_at};
 
 use fr_alphabet::{Alphabet, NoMemory, Perm};
-use fr_canon::{Code, Scratch, canon_rows};
+use fr_canon::{Code, Scratch, canon_rows, canonical_machine, count_states, has_code};
 use fr_machine::{Minimal, Row};
 use std::alloc::Global;
 
@@ -79,6 +82,56 @@ impl Blocks {
             (row - place.start) as u16,
             out,
         );
+    }
+
+    /// Whether a row has this code.
+    pub fn has_code(&self, scratch: &mut Scratch, row: u32, code: &Code) -> bool
+        requires { row < length self.now.rows.items }
+        ensures { IsTrue result ↔ (code_at self.now.alphabet self.now.rows.items self.now.places.items row ≡ code.now) }
+    {
+        let place = self.places[row as usize];
+        let block = self.block(row);
+        has_code(
+            scratch,
+            self.alphabet,
+            block,
+            (row - place.start) as u16,
+            code,
+        )
+    }
+
+    /// How many sections the element of a row has, up to acting alike: 1 to 1,024.
+    pub fn states(&self, scratch: &mut Scratch, row: u32) -> u16
+        requires { row < length self.now.rows.items }
+        ensures size { (t : Term) → IsAlike (element_at self.now.rows.items self.now.places.items row) t → IsSize self.now.alphabet t result }
+        ensures most { result ≤ 1024 }
+    {
+        let place = self.places[row as usize];
+        let block = self.block(row);
+        count_states(scratch, self.alphabet, block, (row - place.start) as u16)
+    }
+
+    /// The machine of the element of a row, with its rows in the order of the canonical numbering. The only error is want
+    /// of memory.
+    pub fn machine(
+        &self,
+        alloc: Global,
+        scratch: &mut Scratch,
+        row: u32,
+    ) -> Result<Minimal, NoMemory>
+        requires { row < length self.now.rows.items }
+        ensures alphabet { IfOk result (λ m. m.alphabet ≡ self.now.alphabet) }
+        ensures canonical { IfOk result (λ m. (t : Term) → IsAlike (element_at self.now.rows.items self.now.places.items row) t → IsCanonical self.now.alphabet t (states_of m.rows)) }
+    {
+        let place = self.places[row as usize];
+        let block = self.block(row);
+        canonical_machine(
+            alloc,
+            scratch,
+            self.alphabet,
+            block,
+            (row - place.start) as u16,
+        )
     }
 
     /// The permutation that a row puts out.

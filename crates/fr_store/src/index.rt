@@ -1,5 +1,4 @@
-//! Handles, and a hash table in which they are found by their codes. A code is made again from the rows where it is
-//! compared.
+//! Handles, and a hash table in which they are found by their codes. A code is compared with the rows themselves.
 
 ghost use Rattle.std.specs.Prelude.{ℕ, ◌≡◌, ◌+◌, ◌-◌, ◌*◌, ◌<◌, ◌≤◌, ◌^◌, [], ◌∷◌, ◌++◌, IfOk, MatchResult, length, take, replicate, slice_index, slice_set, vec_len, vec_capacity};
 ghost use Rattle.fr_model.specs.Words.{IsLetter};
@@ -24,7 +23,6 @@ const WIDER_BITS: u32 = 4;
 pub(crate) struct Desk {
     pub scratch: Scratch,
     pub wanted: Code,
-    pub other: Code,
     // For each row of a block that is entered 0, or a handle that it is known to have and one more.
     pub hints: Vec<u32>,
     ghost hint_room: { length hints.items ≡ 1024 },
@@ -36,7 +34,6 @@ impl Desk {
         Ok(Desk {
             scratch: Scratch::new(alloc)?,
             wanted: Code::new(alloc)?,
-            other: Code::new(alloc)?,
             hints: vec![in alloc; 0u32; 1024]?,
         })
     }
@@ -209,8 +206,7 @@ impl Index {
             if held == 0 {
                 return Err(cell);
             }
-            blocks.code(&mut desk.scratch, held - 1, &mut desk.other);
-            if desk.other.numbers() == desk.wanted.numbers() {
+            if blocks.has_code(&mut desk.scratch, held - 1, &desk.wanted) {
                 return Ok(held - 1);
             }
         }

@@ -6,7 +6,6 @@ mod counted;
 mod handle;
 mod index;
 mod products;
-mod rebuild;
 mod store;
 #[cfg(test)]
 mod tests;

@@ -11,7 +11,6 @@ use crate::blocks::Blocks;
 use crate::handle::{Full, Handle};
 use crate::index::{Desk, Index};
 use crate::products::Products;
-use crate::rebuild::{count_states, rebuild};
 use crate::store::Store;
 use fr_alphabet::{Alphabet, NoMemory, Perm};
 use fr_canon::canon;
@@ -19,7 +18,7 @@ use fr_machine::Minimal;
 use std::alloc::Global;
 
 /// A store for one thread. It keeps the rows of the elements that were claimed, and finds its handles by a hash of their
-/// codes; a code is made again from the rows where it is compared. It remembers some 8,000 products, and forgets one where
+/// codes, which are compared with the rows themselves. It remembers some 8,000 products, and forgets one where
 /// another needs its place. All memory is taken when it is made. This project's own.
 #[derive(Debug, Drop)]
 pub struct VecStore {
@@ -139,15 +138,11 @@ impl Store for VecStore {
     }
 
     fn states(&mut self, h: Handle) -> u16 {
-        self.blocks
-            .code(&mut self.desk.scratch, h.node, &mut self.desk.wanted);
-        count_states(self.blocks.alphabet, self.desk.wanted.numbers())
+        self.blocks.states(&mut self.desk.scratch, h.node)
     }
 
     fn machine(&mut self, alloc: Global, h: Handle) -> Result<Minimal, NoMemory> {
-        self.blocks
-            .code(&mut self.desk.scratch, h.node, &mut self.desk.wanted);
-        rebuild(alloc, self.blocks.alphabet, self.desk.wanted.numbers())
+        self.blocks.machine(alloc, &mut self.desk.scratch, h.node)
     }
 
     /// The handle of the product, first `a` and then `b`, where it was offered and no other took its place. Nothing becomes

@@ -5,8 +5,8 @@ use Rattle.fr_store.specs.Blocks.{code_at}
 use Rattle.fr_store.proofs.TableLaws.{walk-ends, held-lt_rows}
 use Rattle.fr_store.proofs.index.Index.search.Goals as goal
 
-pub code-requires : goal.code-requires
-code-requires c =
+pub has_code-requires : goal.has_code-requires
+has_code-requires c =
     let b = c.args.blocks.now in
     let s = c.args.self.now in
     let code : ℕ → List ℕ = code_at b.alphabet b.rows.items b.places.items in
