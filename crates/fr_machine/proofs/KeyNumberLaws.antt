@@ -1,22 +1,12 @@
 -- Keys that are numbered by a walk.
-use Rattle.std.proofs.Common.{ℕ, suc, ◌≡◌, ◌+◌, ◌<◌, ◌≤◌, max, ◌⊎◌, inl, inr, List, [], ◌∷◌, ◌++◌, length, get_or, refl, sym, ◌∙◌, ap, arith}
-use Rattle.std.specs.List.{All, Contains}
+use Rattle.std.proofs.Common.{ℕ, suc, ◌≡◌, ◌+◌, ◌<◌, ◌≤◌, max, inl, inr, List, [], ◌∷◌, ◌++◌, length, get_or, refl, sym, ◌∙◌, ap, arith}
 use Rattle.std.proofs.lemmas.List.{get_or_append_left, get_or_push, length_push, get_or_default}
 use Rattle.std.proofs.lemmas.List.Elements.{All-from_get_or}
 use Rattle.std.proofs.lemmas.Bool.{cases_lt, cases_eq}
 use Rattle.fr_machine.specs.declared.sparse.SparseWalk.{SparseWalk}
-use Rattle.fr_machine.specs.Numberings.{IsNumberedFrom, IsNumbering, IsNumberingOfKeys}
-use Rattle.fr_machine.specs.Sparse.{IsSparse, IsMet}
-use Rattle.fr_machine.proofs.FindLaws.{numbers_after, IsNumberedFrom-push, numbers_after-push}
-
--- the first i keys have these numbers, by the keys that were met
-pub record AreMet (keys numbers met : List ℕ) (i : ℕ) : Type 0 where
-  pub size : length numbers ≡ i
-  pub first : IsNumberedFrom 0 numbers
-  pub counted : numbers_after 0 numbers ≡ length met
-  pub few : length met ≤ i
-  pub own : (j : ℕ) → j < i → (get_or numbers j 0 < length met) × (get_or met (get_or numbers j 0) 0 ≡ get_or keys j 0)
-  pub used : (c : ℕ) → c < length met → (j : ℕ) × (j < i) × (get_or numbers j 0 ≡ c)
+use Rattle.fr_machine.specs.Numberings.{IsNumberingOfKeys, numbers_after}
+use Rattle.fr_machine.specs.Sparse.{IsSparse, IsMet, AreMet}
+use Rattle.fr_machine.proofs.FindLaws.{IsNumberedFrom-push, numbers_after-push}
 
 pub AreMet-none : (keys numbers met : List ℕ) → numbers ≡ [] → met ≡ [] → AreMet keys numbers met 0
 AreMet-none keys numbers met e f = rw (e, f) (record {
@@ -94,3 +84,14 @@ IsNumberingOfKeys-met keys numbers w i s h e =
       where
         less : (a b : ℕ) → b ≤ a → (a ≡ b → ⊥) → b < a
         less a b g n = elim (cases_lt b a) [ inl k ↦ k | inr k ↦ absurd (n (omega arith)) ]
+
+-- the same keys at the first places
+pub AreMet-keys : (keys keys' numbers met : List ℕ) (n : ℕ) → ((j : ℕ) → j < n → get_or keys' j 0 ≡ get_or keys j 0) → AreMet keys numbers met n → AreMet keys' numbers met n
+AreMet-keys keys keys' numbers met n same h = record {
+  size = h.size;
+  first = h.first;
+  counted = h.counted;
+  few = h.few;
+  own = λ j l. let o = h.own j l in (o.0, o.1 ∙ sym (same j l));
+  used = h.used;
+}

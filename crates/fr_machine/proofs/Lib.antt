@@ -2,6 +2,7 @@ pub mod CanonLaws
 pub mod CleanCountLaws
 pub mod FindLaws
 pub mod FixedLaws
+pub mod GrowingLaws
 pub mod HashLaws
 pub mod IdentityLaws
 pub mod InverseLaws

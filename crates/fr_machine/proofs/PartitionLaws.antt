@@ -1,9 +1,9 @@
 -- Rounds of refinement: rows that act alike stay together, and classes with clean rows alone are those of acting alike.
-use Rattle.std.proofs.Common.{ℕ, suc, ◌≡◌, ◌-◌, ◌<◌, ◌≤◌, inl, inr, Bool, true, false, List, [], ◌∷◌, ◌++◌, length, take, drop, map, get_or, replicate, refl, sym, ◌∙◌, ap, arith, sub-one, eqb}
+use Rattle.std.proofs.Common.{ℕ, suc, ◌≡◌, ◌-◌, ◌<◌, ◌≤◌, inl, inr, Bool, true, false, List, [], ◌++◌, length, take, drop, map, get_or, replicate, refl, sym, ◌∙◌, ap, arith, sub-one, eqb}
 use Rattle.std.specs.List.{All, Contains, list_any}
 use Rattle.std.specs.Prelude.{Vec}
 use Rattle.std.specs.Global.{Global}
-use Rattle.std.proofs.lemmas.List.{take_at, drop_at, get_or-map, length-map, length-replicate, ext_get_or, get_or_default, get_or-take, length-take-le, get_or-replicate}
+use Rattle.std.proofs.lemmas.List.{take_at, drop_at, get_or-map, length-map, ext_get_or, get_or_default, get_or-take, length-take-le, get_or-replicate}
 use Rattle.std.proofs.lemmas.List.Elements.{All-get_or, All-contains}
 use Rattle.std.proofs.lemmas.Bool.{true≢false}
 use Rattle.std.proofs.lemmas.Map.Steps.{le-length_from_below}
@@ -24,7 +24,7 @@ use Rattle.fr_alphabet.specs.Padded.{padded}
 use Rattle.fr_machine.specs.declared.predecessors.Predecessors.{Predecessors}
 use Rattle.fr_machine.specs.Predecessors.{ArePredecessors, lists_of}
 use Rattle.fr_machine.proofs.RowLaws.{IsAutomaton-states_of, length-states_of, state_at_row, next_row}
-use Rattle.fr_machine.proofs.StartLaws.{IsTallied-start, IsUsed-start}
+use Rattle.fr_machine.proofs.StartLaws.{IsTallied-start}
 use Rattle.fr_machine.proofs.MarkLaws.{IsUsed-wider}
 use Rattle.fr_machine.proofs.SignatureLaws.{length-padded}
 
@@ -63,7 +63,7 @@ module _ (d n : ℕ) (r q : Row) (small : d ≤ 8) (h : IsRow d n r) (g : IsRow 
       ∙ ap (λ s. get_or s k 0) (sym (signature_next d n r small h of) ∙ ap (λ s. take d (drop 8 s)) e ∙ signature_next d n q small g of')
       ∙ get_or-next_classes d n q small g of' k l
 
-  same_signature : (of of' : List ℕ) → r.perm ≡ q.perm → ((k : ℕ) → k < d → get_or of (get_or r.next k 0) 0 ≡ get_or of' (get_or q.next k 0) 0) → signature_of of r ≡ signature_of of' q
+  pub same_signature : (of of' : List ℕ) → r.perm ≡ q.perm → ((k : ℕ) → k < d → get_or of (get_or r.next k 0) 0 ≡ get_or of' (get_or q.next k 0) 0) → signature_of of r ≡ signature_of of' q
   same_signature of of' e f =
       let x = length-next_classes d n r small h of in
       let y = length-next_classes d n q small g of' in
@@ -126,7 +126,7 @@ module _ (d : ℕ) (rows : List Row) (m : IsMachine d rows) where
   pub row_is_at : (s : ℕ) → s < length rows → IsRow d (length rows) (row_at rows s)
   row_is_at s l = m.valid s _ l
 
-  next_below : (s k : ℕ) → s < length rows → k < d → next_at rows s k < length rows
+  pub next_below : (s k : ℕ) → s < length rows → k < d → next_at rows s k < length rows
   next_below s k a l = All-get_or (λ n. n < length rows) (row_at rows s).next k 0 (omega (arith, (row_is_at s a).width, m.letters)) (row_is_at s a).below
 
   row_state : (s : ℕ) → (a : s < length rows) → state_at (states_of rows) s ≡ state_of (row_at rows s)
@@ -239,14 +239,14 @@ module _ (d : ℕ) (rows : List Row) (m : IsMachine d rows) where
   }
 
   -- before the first round
-  pub IsRefining-start : (p : Partition) → p.of.items ≡ replicate (length rows) 0 → p.dirty.items ≡ replicate (length rows) true → length p.known.items ≡ 1 → p.clean.items ≡ 0 ∷ [] → IsRefining rows p
-  IsRefining-start p of dirty known clean =
-      let zero_at : (s : ℕ) → s < length rows → class_in p s ≡ 0 = λ s l. ap (λ xs. get_or xs s 0) of ∙ get_or-replicate (length rows) s 0 0 l in
-      let flag : (s : ℕ) → s < length rows → flag_at p s ≡ true = λ s l. ap (λ xs. get_or xs s true) dirty ∙ get_or-replicate (length rows) s true true l in
+  pub IsRefining-start : (of : List ℕ) (count : ℕ) (p : Partition) → IsGuess rows of count → p.of.items ≡ of → p.dirty.items ≡ replicate (length of) true → length p.known.items ≡ count → p.clean.items ≡ replicate count 0 → IsRefining rows p
+  IsRefining-start of count p h is dirty known clean =
+      let class_is : (s : ℕ) → class_in p s ≡ get_or of s 0 = λ s. ap (λ xs. get_or xs s 0) is in
+      let flag : (s : ℕ) → s < length rows → flag_at p s ≡ true = λ s l. ap (λ xs. get_or xs s true) dirty ∙ get_or-replicate (length of) s true true (omega (arith, h.size)) in
       record {
-        tallied = IsTallied-start (length rows) p m.most of dirty known clean;
-        count = ap length of ∙ length-replicate {A = ℕ} (length rows) 0;
-        used = IsUsed-start (length rows) p m.least of known;
-        alike = λ s t a b e. zero_at s a ∙ sym (zero_at t b);
+        tallied = IsTallied-start (length of) count p (omega (arith, h.size, m.most)) (ap length is) (rw is h.below) dirty known clean;
+        count = ap length is ∙ h.size;
+        used = λ c l. rw is (h.used c (omega (arith, known)));
+        alike = λ s t a b e. class_is s ∙ h.alike s t a b e ∙ sym (class_is t);
         settled = λ s a f. absurd (true≢false (sym (flag s a) ∙ f));
       }

@@ -1,5 +1,5 @@
 -- Keys with their numbers, in buckets by a hash. This project's own.
-use Rattle.std.specs.Prelude.{ℕ, ◌≡◌, ◌≢◌, ◌<◌, ◌≤◌, ◌+◌, ◌*◌, ◌%◌, ◌⊎◌, Bool, if◌then◌else◌, List, [], ◌∷◌, length, slice_index, slice_index_or, Option, Some, None, nat_eq}
+use Rattle.std.specs.Prelude.{ℕ, ◌≡◌, ◌≢◌, ◌<◌, ◌≤◌, ◌+◌, ◌*◌, ◌%◌, ◌⊎◌, if◌then◌else◌, List, [], ◌∷◌, length, drop, slice_index, slice_index_or, Option, Some, None, nat_eq}
 use Rattle.std.specs.Cmp.Lexicographic.{pointwise}
 use Rattle.fr_machine.specs.declared.key_table.Entry.{Entry}
 use Rattle.fr_machine.specs.declared.key_table.KeyTable.{KeyTable}
@@ -9,9 +9,9 @@ abbrev pub key_hash_from : ℕ → List ℕ → ℕ
 key_hash_from h [] = h
 key_hash_from h (n ∷ ns) = key_hash_from ((h * 1000003 + n) % 4294967296) ns
 
--- the bucket of a key among so many
+-- the bucket of a key among so many, by its class and by the classes of next rows, which stand behind nine numbers
 abbrev pub bucket_of : ℕ → List ℕ → ℕ
-bucket_of buckets key = key_hash_from 7 key % buckets
+bucket_of buckets key = key_hash_from (slice_index key 0) (drop 9 key) % buckets
 
 -- the entry at a place
 abbrev pub entry_at : List Entry → ℕ → Entry

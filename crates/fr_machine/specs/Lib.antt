@@ -12,3 +12,4 @@ pub mod KeyTables
 pub mod Sparse
 pub mod Hashes
 pub mod Guesses
+pub mod Growing

@@ -7,6 +7,11 @@ abbrev pub IsNumberedFrom : ℕ → List ℕ → Type 0
 IsNumberedFrom c [] = Unit {0}
 IsNumberedFrom c (x ∷ xs) = (x ≤ c) × IsNumberedFrom (max c (suc x)) xs
 
+-- how many numbers there are, where c numbers came before the list
+abbrev pub numbers_after : ℕ → List ℕ → ℕ
+numbers_after c [] = c
+numbers_after c (x ∷ xs) = numbers_after (max c (suc x)) xs
+
 -- keys have one number exactly where they are equal
 pub record IsNumbering {K : Type 0} (keys : List K) (numbers : List ℕ) : Type 0 where
   pub count : length numbers ≡ length keys

@@ -1,5 +1,6 @@
 -- Keys that are numbered in the order in which they are met, in buckets by their remainders. This project's own.
 use Rattle.std.specs.Prelude.{ℕ, ◌≡◌, ◌≢◌, ◌<◌, ◌≤◌, ◌+◌, ◌%◌, ◌⊎◌, List, [], ◌∷◌, ◌++◌, length, slice_index}
+use Rattle.fr_machine.specs.Numberings.{IsNumberedFrom, numbers_after}
 use Rattle.fr_machine.specs.declared.sparse.SparseWalk.{SparseWalk}
 
 -- the bucket of key i
@@ -23,3 +24,12 @@ pub record IsMet (old keys : List ℕ) (key n : ℕ) : Type 0 where
   pub inside : n < length keys
   pub value : slice_index keys n ≡ key
   pub grown : (keys ≡ old) ⊎ ((keys ≡ old ++ key ∷ []) × (n ≡ length old))
+
+-- the first n keys have these numbers, by the keys that were met
+pub record AreMet (keys numbers met : List ℕ) (n : ℕ) : Type 0 where
+  pub size : length numbers ≡ n
+  pub first : IsNumberedFrom 0 numbers
+  pub counted : numbers_after 0 numbers ≡ length met
+  pub few : length met ≤ n
+  pub own : (j : ℕ) → j < n → (slice_index numbers j < length met) × (slice_index met (slice_index numbers j) ≡ slice_index keys j)
+  pub used : (c : ℕ) → c < length met → (j : ℕ) × (j < n) × (slice_index numbers j ≡ c)

@@ -1,6 +1,6 @@
 //! Hashes of rows, which are equal where rows act alike.
 
-ghost use Rattle.std.specs.Prelude.{ℕ, ◌≡◌, ◌<◌, ◌≤◌, IfOk, length};
+ghost use Rattle.std.specs.Prelude.{ℕ, ◌≡◌, ◌<◌, ◌≤◌, ◌+◌, ◌*◌, ◌/◌, ◌%◌, IfOk, length};
 ghost use Rattle.fr_machine.specs.Rows.{IsRow, IsMachine};
 ghost use Rattle.fr_machine.specs.Hashes.{hash_of, AreHashes, AreInvariant};
 
@@ -37,17 +37,24 @@ fn hash_rows(rows: &[Row], shorter: &[u32], hashes: &mut Vec<u32>)
     }
 }
 
-// The hash of a row for one letter more: it begins with 7; each letter in turn adds the hash of the next row, takes the
-// middle digits of a multiple, as multiplicative hashing does, and adds the letter that is put out.
+// The hash of a row for one letter more: it begins with 7, and each letter in turn is mixed in.
 fn hash_of(row: &Row, shorter: &[u32]) -> u32
     requires { IsRow (length row.now.perm) (length shorter.now) row.now }
     ensures { result ≡ hash_of row.now shorter.now (length row.now.perm) }
 {
     let mut hash = 7u64;
     for x in 0..row.perm.letters() {
-        let next = shorter[row.next[x as usize] as usize] as u64;
-        let output = row.perm.apply(x + 1) as u64;
-        hash = ((hash + next) * 1640531527 / 65536 + output) % 4294967296;
+        let next = shorter[row.next[x as usize] as usize];
+        hash = mixed(hash, next, row.perm.apply(x + 1));
     }
     hash as u32
+}
+
+/// A hash with a letter mixed in: adds the hash of the next row, takes the middle digits of a multiple, as multiplicative
+/// hashing does, and adds the letter that is put out.
+pub fn mixed(hash: u64, next: u32, output: u8) -> u64
+    requires { hash < 4294967296 }
+    ensures { result ≡ ((hash + next) * 1640531527 / 65536 + output) % 4294967296 }
+{
+    ((hash + next as u64) * 1640531527 / 65536 + output as u64) % 4294967296
 }

@@ -42,16 +42,17 @@ impl KeyTable {
         })
     }
 
-    // The bucket of a key: its hash modulo the number of buckets. The hash begins with 7; each number of the key in turn
-    // makes it 1,000,003 times itself and the number more, modulo 2^32.
+    // The bucket of a key: its hash modulo the number of buckets. The hash begins with the class; the class of each next row in
+    // turn makes it 1,000,003 times itself and the class more, modulo 2^32. What is put out is left out: rows of one class
+    // mostly agree in it.
     fn bucket(&self, key: &Key) -> usize
         requires table { IsKeyTable self.now }
         ensures value { result ≡ bucket_of (length self.now.latest.items) key.now }
         ensures bucket { result < length self.now.latest.items }
     {
-        let mut hash = 7u64;
-        for number in key {
-            hash = (hash * 1000003 + *number as u64) % 4294967296;
+        let mut hash = key[0] as u64;
+        for place in 9..17 {
+            hash = (hash * 1000003 + key[place] as u64) % 4294967296;
         }
         hash as usize % self.latest.len()
     }

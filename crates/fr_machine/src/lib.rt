@@ -2,6 +2,7 @@
 #![tactic(auto)]
 
 mod fixed;
+mod growing;
 mod hashes;
 mod key_table;
 mod machine;
@@ -18,6 +19,7 @@ mod tests;
 mod walk;
 
 pub use fixed::FixedWalk;
+pub use growing::GrowingClasses;
 pub use machine::Machine;
 pub use minimal::{Minimal, STATE_LIMIT};
 pub use partition::{classes, classes_within};

@@ -125,6 +125,14 @@ impl Machine {
         &self.rows
     }
 
+    /// The rows, taken out of the machine.
+    pub fn into_rows(self) -> Vec<Row>
+        ensures value { result.items ≡ self.rows }
+        ensures valid { IsMachine self.alphabet self.rows }
+    {
+        self.rows
+    }
+
     /// The wreath recursion of a row `s`: its permutation, and for each letter the row of the section at it
     /// (Nekrashevych, 1.3).
     pub fn wreath(&self, s: u16) -> Row

@@ -99,7 +99,7 @@ impl Members {
         self.before[next as usize] = row;
     }
 
-    // Moves a row to a class.
+    // Moves a row to a class, if it has another one.
     fn move_to(&mut self, row: u16, class: u16)
         requires members { IsMembers self.old }
         requires row { row < length self.old.of.items }
@@ -107,6 +107,9 @@ impl Members {
         ensures members { IsMembers self.new }
         ensures of { self.new.of.items ≡ slice_set self.old.of.items row class }
     {
+        if self.of[row as usize] == class {
+            return;
+        }
         self.unlink(row);
         self.link(row, class);
         let old = self.of[row as usize];

@@ -9,7 +9,7 @@ ghost use Rattle.fr_machine.specs.Numberings.{IsNumbering};
 ghost use Rattle.fr_machine.specs.Classes.{AreClasses, HasMoreClasses};
 ghost use Rattle.fr_machine.specs.Guesses.{IsGuess, IsStable};
 ghost use Rattle.fr_machine.specs.KeyTables.{IsKeyTable};
-ghost use Rattle.fr_machine.specs.Refinement.{signed_rows, class_in, known_at, IsElected, IsVoted, IsTarget, IsPlaced, IsMarked, IsWider, IsSeen, IsUsed, IsTallied, IsQueued, IsRefining, IsSettled, IsSpread, IsSpreadOver, Progress};
+ghost use Rattle.fr_machine.specs.Refinement.{signed_rows, work_at, class_in, clean_at, known_at, IsElected, IsVoted, IsTarget, IsPlaced, IsMarked, IsWider, IsSeen, IsUsed, IsTallied, IsQueued, IsRefining, IsSettled, IsSpread, IsSpreadOver, Progress};
 ghost use Rattle.fr_machine.specs.Predecessors.{AreLinks, ArePredecessors, lists_of};
 
 use crate::hashes::hashes;
@@ -28,7 +28,7 @@ use std::mem;
 /// numbered from 0 in the order of their first rows. The only error is want of memory.
 ///
 /// Where a hash of what rows put out on short words gives classes that are stable, these are they. Else
-/// classes are refined as Moore does it for automata, by what rows put out and the classes of their next rows. After
+/// they are refined as Moore does it for automata, by what rows put out and the classes of their next rows. After
 /// Hopcroft, a row comes to another class only if that has at most half the size of the one before. So of n rows at most
 /// log n times as many come to another class, whatever the machine, and only rows before these are looked at again. The
 /// bound on time is not proved; what the classes are is.
@@ -40,7 +40,16 @@ pub fn classes(alloc: Global, m: &Machine) -> Result<Vec<u16>, NoMemory>
     if is_stable(alloc, rows, &guess)? {
         return Ok(guess.of);
     }
-    let partition = refined(alloc, rows, rows.len())?;
+    refined_classes(alloc, rows, guess)
+}
+
+/// The class of each row, as [`classes`], from a guess. The only error is want of memory.
+pub fn refined_classes(alloc: Global, rows: &[Row], guess: Numbering) -> Result<Vec<u16>, NoMemory>
+    requires machine { (d : ℕ) × IsMachine d rows.now }
+    requires guess { IsGuess rows.now guess.of.items guess.count }
+    ensures { IfOk result (λ of. AreClasses rows.now of.items) }
+{
+    let partition = refined(alloc, rows, guess, rows.len())?;
     by_first_places(alloc, partition.known.len(), &partition.of)
 }
 
@@ -62,7 +71,7 @@ pub fn classes_within(
     if is_stable(alloc, rows, &guess)? {
         return Ok(Some(guess.of));
     }
-    let partition = refined(alloc, rows, limit)?;
+    let partition = refined(alloc, rows, guess, limit)?;
     if partition.known.len() > limit {
         return Ok(None);
     }
@@ -114,16 +123,23 @@ fn signature_of_each(
     Ok(known)
 }
 
-// The rows in classes, until no row is dirty or there are more classes than the limit. Rows of different classes do not act
-// alike, however far the refinement has come.
-fn refined(alloc: Global, rows: &[Row], limit: usize) -> Result<Partition, NoMemory>
+// The classes of a guess refined, until no row is dirty or there are more classes than the limit. Rows of different classes do
+// not act alike, however far the refinement has come.
+fn refined(
+    alloc: Global,
+    rows: &[Row],
+    guess: Numbering,
+    limit: usize,
+) -> Result<Partition, NoMemory>
     requires machine { (d : ℕ) × IsMachine d rows.now }
+    requires guess { IsGuess rows.now guess.of.items guess.count }
     ensures refining { IfOk result (λ p. IsRefining rows.now p) }
     ensures ends { IfOk result (λ p. IsQueued p [] ⊎ (limit < length p.known.items)) }
 {
     let before = Predecessors::new(alloc, rows)?;
-    let mut partition = Partition::new(alloc, rows.len())?;
+    let mut partition = Partition::new(alloc, guess)?;
     let mut members = Members::new(alloc, rows.len())?;
+    members.follow(&partition.of, &partition.todo);
     while !partition.todo.is_empty() && partition.known.len() <= limit {
         partition.refine(alloc, rows, &before, &mut members)?;
     }
@@ -146,29 +162,25 @@ struct Partition {
 }
 
 impl Partition {
-    // All rows in one class, and dirty.
-    fn new(alloc: Global, count: usize) -> Result<Partition, NoMemory>
-        requires { count ≤ 65536 }
-        ensures of { IfOk result (λ p. p.of.items ≡ replicate count 0) }
-        ensures dirty { IfOk result (λ p. p.dirty.items ≡ replicate count true) }
-        ensures known { IfOk result (λ p. p.known.items ≡ replicate 16 0 ∷ []) }
-        ensures clean { IfOk result (λ p. p.clean.items ≡ 0 ∷ []) }
-        ensures todo { IfOk result (λ p. p.todo.items ≡ numbers_from 0 count) }
+    // The rows in the classes of a guess, and all dirty.
+    fn new(alloc: Global, guess: Numbering) -> Result<Partition, NoMemory>
+        requires { length guess.of.items ≤ 65536 }
+        ensures of { IfOk result (λ p. p.of.items ≡ guess.of.items) }
+        ensures dirty { IfOk result (λ p. p.dirty.items ≡ replicate (length guess.of.items) true) }
+        ensures known { IfOk result (λ p. length p.known.items ≡ guess.count) }
+        ensures clean { IfOk result (λ p. p.clean.items ≡ replicate guess.count 0) }
+        ensures todo { IfOk result (λ p. p.todo.items ≡ numbers_from 0 (length guess.of.items)) }
     {
-        let of = vec![in alloc; 0u16; count]?;
-        let dirty = vec![in alloc; true; count]?;
-        let mut todo = Vec::with_capacity(alloc, count)?;
-        for row in 0..count {
+        let Numbering { of, count } = guess;
+        let dirty = vec![in alloc; true; of.len()]?;
+        let mut todo = Vec::with_capacity(alloc, of.len())?;
+        for row in 0..of.len() {
             todo.push(row as u16)?;
         }
-        let mut known = Vec::new(alloc);
-        known.push([0; 16])?;
-        let mut clean = Vec::new(alloc);
-        clean.push(0)?;
         Ok(Partition {
             of,
-            known,
-            clean,
+            known: vec![in alloc; [0; 16]; count]?,
+            clean: vec![in alloc; 0u32; count]?,
             dirty,
             todo,
         })
@@ -272,11 +284,28 @@ impl Partition {
         requires as_many { length self.old.clean.items ≡ length self.old.known.items }
         ensures { OnOk result (IsElected self.old self.new work.now) }
     {
+        if self.have_clean(work) {
+            return Ok(());
+        }
         let mut leads = vec![in alloc; 0u32; self.known.len()]?;
         for item in work {
             self.vote(&mut leads, item);
         }
         Ok(())
+    }
+
+    // Whether each class of these rows has a clean row.
+    fn have_clean(&self, work: &[Signed]) -> bool
+        requires classes { All (λ w. w.class < length self.now.known.items) work.now }
+        requires as_many { length self.now.clean.items ≡ length self.now.known.items }
+        ensures { result ≡ true → (k : ℕ) → k < length work.now → 0 < clean_at self.now (work_at work.now k).class }
+    {
+        for item in work {
+            if self.clean[item.class as usize] == 0 {
+                return false;
+            }
+        }
+        true
     }
 
     // Counts a row for or against the signature of its class. `leads` has for each class how many more were for it.

@@ -1,6 +1,6 @@
 //! Small machines whose answers are known by hand.
 
-use crate::{FixedWalk, Machine, Minimal, Row, Walk, classes, classes_within};
+use crate::{FixedWalk, GrowingClasses, Machine, Minimal, Row, Walk, classes, classes_within};
 use fr_alphabet::{Alphabet, NoMemory, Perm, Word};
 use std::alloc::Global;
 use std::test::Fail;
@@ -63,6 +63,25 @@ fn like_rows_share_a_class(rt: HostRuntime) -> Result<(), Fail> {
     );
     assert!(rt; classes_within(alloc, &m, 1)?.is_none());
     assert!(rt; classes_within(alloc, &m, 2)?.is_some());
+    Ok(())
+}
+
+#[test]
+fn classes_grow(rt: HostRuntime) -> Result<(), Fail> {
+    let alloc = rt.alloc();
+    let a = Alphabet::new(2).ok_or("letters")?;
+    let swap = Perm::of_images(a, &[2, 1]).ok_or("images")?;
+    let mut rows = adding(alloc, a, swap, 0)?;
+    rows.push(row(swap, 1, 2))?;
+    let m = Machine::new(a, rows).ok_or("rows")?;
+    let mut growing = GrowingClasses::new(alloc)?;
+    growing.extend(&m)?;
+    assert!(rt; growing.is_stable());
+    assert_eq!(rt; growing.guess(&m), [0, 1, 0].as_slice());
+    assert_eq!(rt;
+        growing.classes(alloc, &m)?.as_slice(),
+        [0, 1, 0].as_slice()
+    );
     Ok(())
 }
 

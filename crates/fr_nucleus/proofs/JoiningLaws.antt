@@ -1,17 +1,11 @@
 -- The rows of two machines, and one row of each class.
-use Rattle.std.proofs.Common.{ℕ, zero, suc, ◌≡◌, ◌≢◌, ◌+◌, ◌-◌, ◌<◌, ◌≤◌, inl, inr, List, [], ◌∷◌, ◌++◌, length, drop, get_or, replicate, max, refl, sym, ◌∙◌, ap, subst, arith}
-use Rattle.std.proofs.lemmas.List.{length_push, drop_more, get_or-replicate}
+use Rattle.std.proofs.Common.{ℕ, suc, ◌≡◌, ◌≢◌, ◌+◌, ◌-◌, ◌<◌, ◌≤◌, inl, inr, List, [], ◌∷◌, ◌++◌, length, drop, get_or, max, refl, sym, ◌∙◌, ap, subst, arith}
+use Rattle.std.proofs.lemmas.List.{length_push, drop_more}
 use Rattle.std.proofs.lemmas.Bool.{cases_lt}
-use Rattle.fr_model.specs.Permutations.{identity_permutation}
-use Rattle.fr_model.specs.Words.{IsLetter, IsWord}
-use Rattle.fr_model.specs.Terms.{One, IsAlike, act}
-use Rattle.fr_model.specs.Automata.{state_at, next_state, IsAutomaton}
-use Rattle.fr_model.proofs.AlikeLaws.{act-nil, alike_from_words}
-use Rattle.fr_model.proofs.AutomatonLaws.{act-state_term, IsTerm-state_term}
-use Rattle.fr_model.proofs.PermutationLaws.{IsPermutation-identity, image-identity}
+use Rattle.fr_model.specs.Terms.{IsAlike}
 use Rattle.fr_machine.specs.declared.row.Row.{Row}
-use Rattle.fr_machine.specs.Rows.{row_term, state_of, states_of, IsRow, IsMachine, row_at}
-use Rattle.fr_machine.proofs.RowLaws.{IsAutomaton-states_of, length-states_of, IsRow-filled, IsMachine-rows, row_valid, state_is_row, next_is}
+use Rattle.fr_machine.specs.Rows.{row_term, IsRow, IsMachine, row_at}
+use Rattle.fr_machine.proofs.RowLaws.{IsRow-filled, IsMachine-rows, row_valid}
 use Rattle.fr_machine.specs.Numberings.{IsNumberedFrom}
 use Rattle.fr_machine.specs.Classes.{AreClasses}
 use Rattle.fr_nucleus.specs.Joining.{IsRenumbered, AreJoined, AreReduced}

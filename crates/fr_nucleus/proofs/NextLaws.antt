@@ -1,16 +1,16 @@
 -- Next rows that are filled in from the first letter on, and what rows that are made so are.
 use Rattle.std.proofs.Common.{ℕ, zero, suc, ◌≡◌, ◌≢◌, ◌+◌, ◌-◌, ◌<◌, ◌≤◌, inl, inr, List, [], ◌∷◌, ◌++◌, length, drop, set, get_or, replicate, refl, sym, ◌∙◌, ap, arith}
-use Rattle.std.proofs.lemmas.List.{get_or_default, get_or_append_left, get_or_push, get_or-drop, length-drop, get_or-set_same, get_or-set_other, length-set, get_or-replicate}
-use Rattle.std.proofs.lemmas.List.Elements.{All-get_or, All-from_get_or}
-use Rattle.std.proofs.lemmas.Bool.{cases_lt, cases_eq}
-use Rattle.fr_model.specs.Permutations.{IsPermutation, image}
+use Rattle.std.proofs.lemmas.List.{get_or_append_left, get_or_push, get_or-drop, length-drop, get_or-set_same, get_or-set_other, length-set, get_or-replicate}
+use Rattle.std.proofs.lemmas.List.Elements.{All-get_or}
+use Rattle.std.proofs.lemmas.Bool.{cases_eq}
+use Rattle.fr_model.specs.Permutations.{image}
 use Rattle.fr_model.specs.Words.{IsLetter}
 use Rattle.fr_model.specs.Terms.{IsAlike}
 use Rattle.fr_model.specs.Automata.{state_at, next_state}
 use Rattle.fr_model.proofs.AutomatonLaws.{alike_by_relation, alike_states}
 use Rattle.fr_model.proofs.CanonicalLaws.{perm_from_images}
 use Rattle.fr_machine.specs.declared.row.Row.{Row}
-use Rattle.fr_machine.specs.Rows.{state_of, states_of, row_term, IsRow, IsMachine, row_at}
+use Rattle.fr_machine.specs.Rows.{states_of, row_term, IsRow, IsMachine, row_at}
 use Rattle.fr_machine.proofs.RowLaws.{IsAutomaton-states_of, length-states_of, row_valid, state_is_row, next_is}
 
 -- the first x of eight entries meet what is asked, and the others are 0

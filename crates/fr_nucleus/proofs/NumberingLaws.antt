@@ -9,6 +9,7 @@ use Rattle.fr_model.specs.Terms.{IsAlike}
 use Rattle.fr_machine.specs.declared.row.Row.{Row}
 use Rattle.fr_machine.specs.Rows.{row_term, states_of, IsRow, IsMachine, row_at}
 use Rattle.fr_machine.specs.Classes.{AreClasses}
+use Rattle.fr_machine.specs.Hashes.{AreInvariant}
 use Rattle.fr_machine.specs.Walks.{WalkView, IsNumbered, IsKeys, Extends}
 use Rattle.fr_machine.proofs.WalkLaws.{Extends-numbered, Extends-trans}
 use Rattle.fr_minimal.specs.Smallest.{IsChoice}
@@ -158,7 +159,7 @@ IsNumberingOf-from d products members width most of old keys marks c l k n v = r
 }
 
 -- one row more than the limit
-module _ (d : ℕ) (products : List Row) (members width most : ℕ) (of old : List ℕ) (marks : List Bool) (c : AreClasses products of) (l : AreLimitRows d products marks) (inside : (i : ℕ) → i < members → i * width < length products) (k : AreKnown of old members width members) (f : IsFull of marks old most) where
+module _ (d : ℕ) (products : List Row) (members width most : ℕ) (of old : List ℕ) (marks : List Bool) (count : length of ≡ length products) (alike : AreInvariant products of) (l : AreLimitRows d products marks) (inside : (i : ℕ) → i < members → i * width < length products) (k : AreKnown of old members width members) (f : IsFull of marks old most) where
   record Good (i s : ℕ) : Type 0 where
     within : s < length products
     either : ((m : ℕ) × (m < members) × (s ≡ m * width)) ⊎ IsLimitState d (states_of products) s
@@ -171,7 +172,7 @@ module _ (d : ℕ) (products : List Row) (members width most : ℕ) (of old : Li
         (i * width, record { within = inside i m; either = inl (i, m, refl); class = sym (k.known i m) ∙ sym (f.numbered.extends.1 i t) })
     | inr t ↦
         let r = f.numbered.only i (omega arith) a in
-        let rl : r.0 < length products = omega (arith, r.1, c.count) in
+        let rl : r.0 < length products = omega (arith, r.1, count) in
         (r.0, record { within = rl; either = inr ((is_limit d products marks l r.0 rl).0 r.2); class = sym r.3 })
   ]
 
@@ -194,7 +195,7 @@ module _ (d : ℕ) (products : List Row) (members width most : ℕ) (of old : Li
   new_at i e = get_or_push firsts.0 f.row 0 i (firsts.1 ∙ sym e)
 
   row_in : f.row < length products
-  row_in = omega (arith, f.inside, c.count)
+  row_in = omega (arith, f.inside, count)
 
   what : (i : ℕ) → i < length f.keys + 1 → (get_or all i 0 < length products) × (((m : ℕ) × (m < members) × (get_or all i 0 ≡ m * width)) ⊎ IsLimitState d (states_of products) (get_or all i 0))
   what i a = elim (cases_lt i (length f.keys)) [
@@ -208,7 +209,7 @@ module _ (d : ℕ) (products : List Row) (members width most : ℕ) (of old : Li
   clash : (i j : ℕ) → i < j → j < length f.keys + 1 → IsAlike (row_term products (get_or all i 0)) (row_term products (get_or all j 0)) → ⊥
   clash i j a b e =
       let il : i < length f.keys = omega arith in
-      let same : get_or of (get_or all i 0) 0 ≡ get_or of (get_or all j 0) 0 = (c.alike (get_or all i 0) (get_or all j 0) (what i (omega arith)).0 (what j b).0).1 e in
+      let same : get_or of (get_or all i 0) 0 ≡ get_or of (get_or all j 0) 0 = alike (get_or all i 0) (get_or all j 0) (what i (omega arith)).0 (what j b).0 e in
       elim (cases_lt j (length f.keys)) [
         | inl t ↦ (let z = f.valid.distinct i j il t (sym (class_at i il) ∙ same ∙ class_at j t) in omega (arith, z))
         | inr t ↦
@@ -223,6 +224,15 @@ module _ (d : ℕ) (products : List Row) (members width most : ℕ) (of old : Li
     apart = λ i j a b e. clash i j a (omega (arith, b, size)) e;
     either = λ i a. what i (omega (arith, a, size));
   }
+
+-- more limit rows than the limit
+pub IsOverfull-limits : (d : ℕ) (products : List Row) (members width most : ℕ) → IsOverfull d products 0 1 most → IsOverfull d products members width most
+IsOverfull-limits d products members width most h = record {
+  rows = h.rows;
+  more = h.more;
+  apart = h.apart;
+  either = λ i a. let e = h.either i a in (e.0, elim e.1 [ inl m ↦ absurd (omega (arith, m.1)) | inr x ↦ inr x ]);
+}
 
 -- the row of the class that comes next
 pub next_first : (of' of firsts keys' keys : List ℕ) (i len first : ℕ) → of' ≡ of → IsChoice of' firsts → keys' ≡ keys → len ≡ i → first ≡ get_or firsts (get_or keys' len 0) first → (r : ℕ) → r < length of → get_or of r 0 ≡ get_or keys i 0 → (first < length of) × (get_or of first 0 ≡ get_or keys i 0)

@@ -8,17 +8,15 @@ use Rattle.std.specs.Cmp.Lexicographic.{slice_cmp}
 use Rattle.std.specs.declared.cmp.Ordering.{Ordering}
 use Rattle.std.specs.declared.cmp.Ordering.TheVariants.{Less, Equal}
 use Rattle.std.proofs.Math.Nat.{mul-div_cancel}
-use Rattle.std.proofs.lemmas.Nat.{mul-le}
 use Rattle.std.proofs.lemmas.Bool.{cases_lt, cases_eq}
 use Rattle.std.proofs.lemmas.List.{get_or_append_left, get_or_push, length_push, get_or_default, get_or-set_same, get_or-set_other, length-set}
 use Rattle.std.proofs.lemmas.List.Edits.{swap_is, length-swap}
 use Rattle.std.proofs.lemmas.List.Sorted.{IsPermutation-keeps}
-use Rattle.fr_model.specs.Terms.{Term, IsTerm, IsAlike}
+use Rattle.fr_model.specs.Terms.{IsAlike}
 use Rattle.fr_model.specs.Separation.{IsLexBefore}
-use Rattle.fr_model.specs.Automata.{State, IsAutomaton}
-use Rattle.fr_model.specs.Canonical.{IsCanonical, IsCode, code_of}
-use Rattle.fr_model.proofs.AlikeLaws.{alike_sym}
-use Rattle.fr_model.proofs.CanonicalLaws.{lex_trans, lex_total, canonical_alike}
+use Rattle.fr_model.specs.Canonical.{IsCanonical, code_of}
+use Rattle.fr_model.proofs.AlikeLaws.{alike_refl, alike_sym}
+use Rattle.fr_model.proofs.CanonicalLaws.{lex_trans, lex_total, canonical_same, canonical_alike}
 use Rattle.fr_model.proofs.CodeLaws.{alike_from_code, IsCanonical-alike}
 use Rattle.fr_machine.specs.declared.row.Row.{Row}
 use Rattle.fr_machine.specs.Machine.{MachineView}
@@ -101,8 +99,8 @@ module _ {X : Type 0} (xs : List X) (a b : ℕ) (l : a < length xs) (h : b < len
 -- ---- the codes of the rows, in any order
 pub record IsArranged (d : ℕ) (rows : List Row) (items : List Listed) : Type 0 where
   pub count : length items ≡ length rows
-  pub each : (i : ℕ) (z : Listed) → i < length items → (s : ℕ) × (s < length rows) × IsListed d (row_term rows s) (get_or items i z)
-  pub whole : (s : ℕ) (z : Listed) → s < length rows → (i : ℕ) × (i < length items) × IsListed d (row_term rows s) (get_or items i z)
+  pub each : (i : ℕ) (z : Listed) → i < length items → (s : ℕ) × (s < length rows) × IsListed d rows s (get_or items i z)
+  pub whole : (s : ℕ) (z : Listed) → s < length rows → (i : ℕ) × (i < length items) × IsListed d rows s (get_or items i z)
   pub apart : (i j : ℕ) (z : Listed) → i < length items → j < length items → (get_or items i z).code.items ≡ (get_or items j z).code.items → i ≡ j
 
 pub IsArranged-listed : (d : ℕ) (rows : List Row) (items : List Listed) → IsMachine d rows → AreUnlike rows → AreListed d rows items (length rows) → IsArranged d rows items
@@ -149,8 +147,11 @@ pub IsArranged-permuted : (d : ℕ) (rows : List Row) (items items' : List Liste
 IsArranged-permuted d rows items items' r p = IsPermutation-keeps items (IsArranged d rows) r (λ xs a b l h x. IsArranged-swap d rows xs a b l h x) items' p
 
 -- ---- codes in order
+abbrev behind_cmp : Listed → Listed → Ordering
+behind_cmp x y = ordering_then (slice_cmp nat_cmp x.code.items y.code.items) (nat_cmp x.row y.row)
+
 abbrev pub listed_cmp : Listed → Listed → Ordering
-listed_cmp x y = ordering_then (nat_cmp x.size y.size) (slice_cmp nat_cmp x.code.items y.code.items)
+listed_cmp x y = ordering_then (nat_cmp x.size y.size) (behind_cmp x y)
 
 lex_less : (v w : List ℕ) → IsLexBefore v w → slice_cmp nat_cmp v w ≡ Less
 lex_less [] w h = absurd h
@@ -168,7 +169,7 @@ before_next d x y a b n s = elim (cases_lt x.size y.size) [
   | inr l ↦ elim (cases_lt y.size x.size) [
     | inl k ↦
         let less : nat_cmp y.size x.size ≡ Less = sym (nat_cmp_is y.size x.size Less k) in
-        let no : true ≡ false = sym (ap (λ o. is_lt (ordering_then o (slice_cmp nat_cmp y.code.items x.code.items))) less) ∙ s in
+        let no : true ≡ false = sym (ap (λ o. is_lt (ordering_then o (behind_cmp y x))) less) ∙ s in
         absurd (cc)
     | inr k ↦
         let same : x.size ≡ y.size = omega arith in
@@ -181,7 +182,7 @@ before_next d x y a b n s = elim (cases_lt x.size y.size) [
             | inr o ↦ elim o [
               | inl f ↦ f
               | inr f ↦
-                  let no : true ≡ false = sym (ap (λ o. is_lt (ordering_then o (slice_cmp nat_cmp y.code.items x.code.items))) level ∙ ap is_lt (lex_less y.code.items x.code.items f)) ∙ s in
+                  let no : true ≡ false = sym (ap (λ o. is_lt (ordering_then o (behind_cmp y x))) level ∙ ap (λ o. is_lt (ordering_then o (nat_cmp y.row x.row))) (lex_less y.code.items x.code.items f)) ∙ s in
                   absurd (cc)
             ]
           ],
@@ -200,7 +201,7 @@ module _ (d : ℕ) (rows : List Row) (items : List Listed) (r : IsArranged d row
   next_before k l =
       let x = r.each k z (omega arith) in
       let y = r.each (k + 1) z l in
-      before_next d (get_or items k z) (get_or items (k + 1) z) x.2.size y.2.size (λ e. (let same = r.apart k (k + 1) z (omega arith) l e in omega arith)) (sorted k z (omega arith) l)
+      before_next d (get_or items k z) (get_or items (k + 1) z) x.2.length_code y.2.length_code (λ e. (let same = r.apart k (k + 1) z (omega arith) l e in omega arith)) (sorted k z (omega arith) l)
 
   far_before : (n i : ℕ) → i + suc n < length items → ItemBefore (get_or items i z) (get_or items (i + suc n) z)
   far_before zero i l =
@@ -217,27 +218,27 @@ module _ (d : ℕ) (rows : List Row) (items : List Listed) (r : IsArranged d row
       subst (λ m. ItemBefore (get_or items i z) (get_or items m z)) e (far_before n i (omega arith))
 
 -- ---- the machines of the codes
-pub record AreMachinesOf (d : ℕ) (items : List Listed) (ms : List MachineView) (k : ℕ) : Type 0 where
+pub record AreMachinesOf (d : ℕ) (rows : List Row) (items : List Listed) (ms : List MachineView) (k : ℕ) : Type 0 where
   pub count : length ms ≡ k
   pub over : (i : ℕ) → i < k → (machine_at ms i).alphabet ≡ d
-  pub states : (i : ℕ) (z : Listed) → i < k → (qs : List State) → IsAutomaton d qs → (get_or items i z).code.items ≡ code_of qs → states_of (machine_at ms i).rows ≡ qs
+  pub canonical : (i : ℕ) (z : Listed) → i < k → IsCanonical d (row_term rows (get_or items i z).row) (states_of (machine_at ms i).rows)
 
-pub AreMachinesOf-start : (d : ℕ) (items : List Listed) (ms : List MachineView) → ms ≡ [] → AreMachinesOf d items ms 0
-AreMachinesOf-start d items ms e = record { count = ap length e; over = λ i l. absurd (omega arith); states = λ i z l. absurd (omega arith) }
+pub AreMachinesOf-start : (d : ℕ) (rows : List Row) (items : List Listed) (ms : List MachineView) → ms ≡ [] → AreMachinesOf d rows items ms 0
+AreMachinesOf-start d rows items ms e = record { count = ap length e; over = λ i l. absurd (omega arith); canonical = λ i z l. absurd (omega arith) }
 
-pub AreMachinesOf-more : (d : ℕ) (items : List Listed) (ms ms' : List MachineView) (m : MachineView) (k : ℕ) (item : Listed) → AreMachinesOf d items ms k → k < length items → item ≡ get_or items k item → m.alphabet ≡ d → ((qs : List State) → IsAutomaton d qs → item.code.items ≡ code_of qs → states_of m.rows ≡ qs) → ms' ≡ ms ++ m ∷ [] → AreMachinesOf d items ms' (k + 1)
-AreMachinesOf-more d items ms ms' m k item h l here a s e = record {
+pub AreMachinesOf-more : (d : ℕ) (rows : List Row) (items : List Listed) (ms ms' : List MachineView) (m : MachineView) (k : ℕ) (item : Listed) → AreMachinesOf d rows items ms k → k < length items → item ≡ get_or items k item → m.alphabet ≡ d → IsCanonical d (row_term rows item.row) (states_of m.rows) → ms' ≡ ms ++ m ∷ [] → AreMachinesOf d rows items ms' (k + 1)
+AreMachinesOf-more d rows items ms ms' m k item h l here a s e = record {
   count = omega (arith, ap length e, length_push ms m, h.count);
   over = λ i b. elim (cases_lt i k) [
     | inl t ↦ ap (λ v. v.alphabet) (old i t) ∙ h.over i t
     | inr t ↦ ap (λ v. v.alphabet) (new i (omega arith)) ∙ a
   ];
-  states = λ i z b. elim (cases_lt i k) [
-    | inl t ↦ rw (old i t) (h.states i z t)
+  canonical = λ i z b. elim (cases_lt i k) [
+    | inl t ↦ rw (old i t) (h.canonical i z t)
     | inr t ↦
         let at : k ≡ i = omega arith in
         let same : item ≡ get_or items i z = here ∙ get_or_default items k item z l ∙ ap (λ j. get_or items j z) at in
-        rw (new i (omega arith)) (subst (λ x. (qs : List State) → IsAutomaton d qs → x.code.items ≡ code_of qs → states_of m.rows ≡ qs) same s)
+        rw (new i (omega arith)) (subst (λ (x : Listed). IsCanonical d (row_term rows x.row) (states_of m.rows)) same s)
   ];
 }
   where
@@ -247,7 +248,7 @@ AreMachinesOf-more d items ms ms' m k item h l here a s e = record {
     new : (i : ℕ) → i ≡ k → machine_at ms' i ≡ m
     new i t = ap (λ xs. machine_at xs i) e ∙ get_or_push ms m (record { alphabet = 0; rows = [] }) i (h.count ∙ sym t)
 
-module _ (d : ℕ) (rows : List Row) (items : List Listed) (m : IsMachine d rows) (r : IsArranged d rows items) (sorted : (k : ℕ) (z : Listed) → 0 ≤ k → k + 1 < length items → is_lt (listed_cmp (get_or items (k + 1) z) (get_or items k z)) ≡ false) (z : Listed) (ms : List MachineView) (h : AreMachinesOf d items ms (length items)) where
+module _ (d : ℕ) (rows : List Row) (items : List Listed) (m : IsMachine d rows) (r : IsArranged d rows items) (sorted : (k : ℕ) (z : Listed) → 0 ≤ k → k + 1 < length items → is_lt (listed_cmp (get_or items (k + 1) z) (get_or items k z)) ≡ false) (z : Listed) (ms : List MachineView) (h : AreMachinesOf d rows items ms (length items)) where
   -- what the machine of a code is
   record IsMade (i s : ℕ) : Type 0 where
     canonical : IsCanonical d (element_of (machine_at ms i)) (states_of (machine_at ms i).rows)
@@ -255,19 +256,19 @@ module _ (d : ℕ) (rows : List Row) (items : List Listed) (m : IsMachine d rows
     size : length (machine_at ms i).rows ≡ (get_or items i z).size
     code : (get_or items i z).code.items ≡ code_of (states_of (machine_at ms i).rows)
 
-  made : (i s : ℕ) → i < length items → s < length rows → IsListed d (row_term rows s) (get_or items i z) → IsMade i s
+  made : (i s : ℕ) → i < length items → s < length rows → IsListed d rows s (get_or items i z) → IsMade i s
   made i s l k x =
       let item = get_or items i z in
       let qs = x.code.states in
-      let same : states_of (machine_at ms i).rows ≡ qs = h.states i z l qs x.code.canonical.automaton x.code.written in
-      let a : IsCanonical d (row_term rows s) (states_of (machine_at ms i).rows) = subst (IsCanonical d (row_term rows s)) (sym same) x.code.canonical in
+      let a : IsCanonical d (row_term rows s) (states_of (machine_at ms i).rows) = subst (λ k. IsCanonical d (row_term rows k) (states_of (machine_at ms i).rows)) x.of_row (h.canonical i z l) in
+      let same : states_of (machine_at ms i).rows ≡ qs = canonical_same d (row_term rows s) (row_term rows s) (states_of (machine_at ms i).rows) qs a x.code.canonical (alike_refl (row_term rows s)) in
       let alike : IsAlike (row_term rows s) (element_of (machine_at ms i)) = canonical_alike d (row_term rows s) (IsTerm-row_term d rows s m k) (states_of (machine_at ms i).rows) a in
       let n : length item.code.items / (d + 1) ≡ length qs = count_is d qs item.code.items x.code.canonical.automaton x.code.written in
       let back : item.size * (d + 1) / (d + 1) ≡ item.size = mul-div_cancel item.size (omega arith) in
       record {
         canonical = IsCanonical-alike d (row_term rows s) (element_of (machine_at ms i)) (states_of (machine_at ms i).rows) alike a;
         alike = alike;
-        size = sym (length-states_of (machine_at ms i).rows) ∙ ap length same ∙ sym n ∙ ap (λ j. j / (d + 1)) x.size ∙ back;
+        size = sym (length-states_of (machine_at ms i).rows) ∙ ap length same ∙ sym n ∙ ap (λ j. j / (d + 1)) x.length_code ∙ back;
         code = x.code.written ∙ ap code_of (sym same);
       }
 
@@ -298,13 +299,11 @@ module _ (d : ℕ) (rows : List Row) (items : List Listed) (m : IsMachine d rows
         (x.0, x.1, alike_sym (own i il).alike);
   }
 
--- an item that is met: what its code is
-pub item_code : (d : ℕ) (rows : List Row) (items : List Listed) (k : ℕ) (item : Listed) → IsMachine d rows → IsArranged d rows items → k < length items → item ≡ get_or items k item → (t : Term) × IsTerm d t × IsCode d t item.code.items × (length item.code.items ≤ 1024 * (d + 1))
-item_code d rows items k item m r l e =
+-- an item that is met is that of a row
+pub item_row : (d : ℕ) (rows : List Row) (items : List Listed) (k : ℕ) (item : Listed) → IsArranged d rows items → k < length items → item ≡ get_or items k item → item.row < length rows
+item_row d rows items k item r l e =
     let x = r.each k item l in
-    let h : IsListed d (row_term rows x.0) item = rw (← e) at x.2 in
-    let most = mul-le item.size (d + 1) 1024 (d + 1) h.few (omega arith) in
-    (row_term rows x.0, IsTerm-row_term d rows x.0 m x.1, h.code, omega (arith, h.size, most))
+    omega (arith, ap (λ (y : Listed). y.row) e, x.2.of_row, x.1)
 
 -- a member of a list that has one
 pub some_item : {A : Type 0} (xs : List A) → 0 < length xs → A

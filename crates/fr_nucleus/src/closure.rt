@@ -1,6 +1,8 @@
 //! The closure of the identity under limit sections of products with sections of generators.
 
-ghost use Rattle.std.specs.Prelude.{◌≡◌, ◌<◌, ◌≤◌, ◌⊎◌, IfOk, IfErr, length};
+ghost use Rattle.std.specs.Prelude.{◌≡◌, ◌<◌, ◌≤◌, ◌⊎◌, List, IfOk, IfErr, OnOk, length};
+ghost use Rattle.fr_machine.specs.declared.row.Row.{Row};
+ghost use Rattle.fr_machine.specs.Growing.{IsGrowing, IsLonger};
 ghost use Rattle.fr_nucleus.specs.Rows.{AreFewRows};
 ghost use Rattle.fr_nucleus.specs.Products.{IsProductTable};
 ghost use Rattle.fr_nucleus.specs.Numberings.{AreMembers, IsNumberingOf, ArePlaces, IsClosure, HasMoreOf};
@@ -8,7 +10,7 @@ ghost use Rattle.fr_nucleus.specs.Numberings.{AreMembers, IsNumberingOf, ArePlac
 use crate::fault::NucleusFault;
 use crate::numbering::{Numbering, empty_places};
 use crate::pairs::with_products;
-use fr_machine::Machine;
+use fr_machine::{GrowingClasses, Machine};
 use std::alloc::Global;
 
 /// The members of the closure, and their products with the sections of generators.
@@ -36,12 +38,13 @@ pub fn close(alloc: Global, sections: &Machine, most: u16) -> Result<Closure, Nu
     ensures err { IfErr result (λ e. (e ≡ NucleusFault.NoMemory) ⊎ ((e ≡ NucleusFault.Passes most) × HasMoreOf sections.now.alphabet sections.now.rows most)) }
 {
     let mut members = Machine::identity(alloc, sections.alphabet())?;
-    let mut products = with_products(alloc, &[], &members, sections)?;
-    let mut numbering = number_products(alloc, &members, &products, sections, most)?;
+    let mut products = with_products(Vec::new(alloc), &members, sections)?;
+    let mut classes = GrowingClasses::new(alloc)?;
+    let mut numbering = number_products(alloc, &members, &products, &mut classes, sections, most)?;
     while numbering.count() > members.rows().len() {
         members = numbering.members(alloc, &products, &members)?;
-        products = with_products(alloc, products.rows(), &members, sections)?;
-        numbering = number_products(alloc, &members, &products, sections, most)?;
+        products = with_products(products.into_rows(), &members, sections)?;
+        numbering = number_products(alloc, &members, &products, &mut classes, sections, most)?;
     }
     let outside = empty_places(alloc, &numbering.places)?;
     Ok(Closure {
@@ -51,11 +54,12 @@ pub fn close(alloc: Global, sections: &Machine, most: u16) -> Result<Closure, Nu
     })
 }
 
-// Numbers the products that are members.
+// Numbers the products that are members, where `classes` has those of the products before.
 fn number_products(
     alloc: Global,
     members: &Machine,
     products: &Machine,
+    classes: &mut GrowingClasses,
     sections: &Machine,
     most: u16,
 ) -> Result<Numbering, NucleusFault>
@@ -64,13 +68,16 @@ fn number_products(
     requires sections { AreFewRows sections.now.rows }
     requires members { AreMembers sections.now.alphabet sections.now.rows members.now.rows }
     requires table { IsProductTable members.now.rows sections.now.rows products.now.rows }
+    requires classes { (old : List Row) × IsGrowing old classes.old × IsLonger old products.now.rows }
     requires few { length members.now.rows ≤ most }
     requires most { most ≤ 256 }
+    ensures classes { OnOk result (IsGrowing products.now.rows classes.new) }
     ensures numbers { IfOk result (λ n. IsNumberingOf sections.now.alphabet products.now.rows (length members.now.rows) (length sections.now.rows) most n.of.items n.walk.keys) }
     ensures places { IfOk result (λ n. ArePlaces n.of.items n.walk.keys n.places.items (length products.now.rows)) }
     ensures err { IfErr result (λ e. (e ≡ NucleusFault.NoMemory) ⊎ ((e ≡ NucleusFault.Passes most) × HasMoreOf sections.now.alphabet sections.now.rows most)) }
 {
     let count = members.rows().len() as u16;
     let width = sections.rows().len() as u16;
-    Numbering::new(alloc, products, count, width, most)
+    classes.extend(products)?;
+    Numbering::new(alloc, products, classes, count, width, most)
 }

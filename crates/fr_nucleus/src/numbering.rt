@@ -5,13 +5,15 @@ ghost use Rattle.std.specs.List.{All, Contains};
 ghost use Rattle.fr_model.specs.Terms.{IsAlike};
 ghost use Rattle.fr_machine.specs.Rows.{IsRow, row_term, row_at};
 ghost use Rattle.fr_machine.specs.Classes.{AreClasses};
+ghost use Rattle.fr_machine.specs.Growing.{IsGrowing};
 ghost use Rattle.fr_machine.specs.Walks.{IsKeys};
+ghost use Rattle.fr_product.specs.Limits.{AreLimitRows};
 ghost use Rattle.fr_minimal.specs.Smallest.{IsChoice};
 ghost use Rattle.fr_nucleus.specs.Numberings.{place_at, ArePlaces, AreEmptyPlaces, IsPlacedRow, IsNumberedClass, IsTooMany, AreKnown, AreNumbered, IsFull, IsNumberingOf, IsOverfull, AreGrown};
 
 use crate::fault::NucleusFault;
 use fr_alphabet::NoMemory;
-use fr_machine::{Machine, Row, Walk, classes};
+use fr_machine::{GrowingClasses, Machine, Row, Walk};
 use fr_product::limit_rows;
 use std::alloc::Global;
 
@@ -34,10 +36,12 @@ impl Numbering {
     pub fn new(
         alloc: Global,
         products: &Machine,
+        classes: &GrowingClasses,
         members: u16,
         width: u16,
         most: u16,
     ) -> Result<Numbering, NucleusFault>
+        requires classes { IsGrowing products.now.rows classes.now }
         requires inside { (i : ℕ) → i < members → i * width < length products.now.rows }
         requires apart { (i j : ℕ) → i < j → j < members → ¬ IsAlike (row_term products.now.rows (i * width)) (row_term products.now.rows (j * width)) }
         requires few { members ≤ most }
@@ -47,8 +51,9 @@ impl Numbering {
     {
         // For the proof: what is known of the rows, and below of the keys.
         let _products = products.rows();
-        let of = classes(alloc, products)?;
         let limits = limit_rows(alloc, products)?;
+        check_guess(alloc, products, classes, &limits, most)?;
+        let of = classes.classes(alloc, products)?;
         let mut walk = number_members(alloc, &of, members, width)?;
         number_limits(&mut walk, &of, &limits, most)?;
         let _keys = walk.keys();
@@ -119,6 +124,26 @@ fn member_row(row: &Row, places: &[Option<u16>]) -> Row
         perm: row.perm,
         next,
     }
+}
+
+// Refuses more than `most` limit rows as soon as the guessed classes tell, where these are not the classes themselves.
+fn check_guess(
+    alloc: Global,
+    products: &Machine,
+    classes: &GrowingClasses,
+    limits: &[bool],
+    most: u16,
+) -> Result<(), NucleusFault>
+    requires classes { IsGrowing products.now.rows classes.now }
+    requires limits { AreLimitRows products.now.alphabet products.now.rows limits.now }
+    ensures { IfErr result (λ e. (e ≡ NucleusFault.NoMemory) ⊎ ((e ≡ NucleusFault.Passes most) × IsOverfull products.now.alphabet products.now.rows 0 1 most)) }
+{
+    if classes.is_stable() {
+        return Ok(());
+    }
+    let guess = classes.guess(products);
+    let mut walk = Walk::new(alloc, guess.len())?;
+    number_limits(&mut walk, guess, limits, most)
 }
 
 // Numbers the classes of so many members.

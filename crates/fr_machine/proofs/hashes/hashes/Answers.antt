@@ -1,6 +1,5 @@
-use Rattle.std.proofs.Common.{◌≡◌, length, ap, ◌∙◌}
 use Rattle.fr_machine.specs.Hashes.{AreInvariant}
-use Rattle.fr_machine.proofs.HashLaws.{AreInvariant-more, AreInvariant-zeros}
+use Rattle.fr_machine.proofs.HashLaws.{AreInvariant-more}
 use Rattle.fr_machine.proofs.hashes.hashes.Goals as goal
 
 pub loop-preserved : goal.loop-preserved

@@ -1,5 +1,5 @@
 use Rattle.std.proofs.Common.{arith, ◌≡◌, length}
-use Rattle.fr_machine.proofs.KeyNumberLaws.{AreMet-none, AreMet-more, IsNumberingOfKeys-met}
+use Rattle.fr_machine.proofs.KeyNumberLaws.{AreMet-more, IsNumberingOfKeys-met}
 use Rattle.fr_machine.proofs.numbering.by_first_keys.Goals as goal
 
 pub loop-key-preserved : goal.loop-key-preserved

@@ -1,5 +1,4 @@
-use Rattle.fr_machine.specs.Sparse.{IsSparse}
-use Rattle.fr_machine.proofs.KeyNumberLaws.{AreMet}
+use Rattle.fr_machine.specs.Sparse.{IsSparse, AreMet}
 use Rattle.fr_machine.proofs.numbering.by_first_keys.Given as goal
 
 abbrev pub invariant-loop-key : goal.invariant-loop-key

@@ -8,7 +8,7 @@ use Rattle.fr_machine.proofs.LimitLaws.{HasMoreClasses-from, HasMoreClasses-gues
 use Rattle.fr_machine.proofs.partition.classes_within.Goals as goal
 
 pub refined-requires : goal.refined-requires
-refined-requires c = record { machine = (c.args.m.now.alphabet, rw c.rows-rows.ensures.value c.rows-rows.ensures.valid) }
+refined-requires c = record { machine = (c.args.m.now.alphabet, rw c.rows-rows.ensures.value c.rows-rows.ensures.valid); guess = c.in_ok-guess.ensures }
 
 pub by_first_places-requires : goal.by_first_places-requires
 by_first_places-requires c =

@@ -1,4 +1,5 @@
 use Rattle.std.proofs.Common.{arith, ℕ, zero, suc, ◌≡◌, ◌<◌, ◌≤◌, ◌+◌, ◌-◌, ◌⊎◌, inl, inr, min, List, [], ◌∷◌, length, ap, ◌∙◌, refl, sym, vec_len, eqb, subst, true, false}
+use Rattle.std.specs.List.{All}
 use Rattle.std.proofs.lemmas.Bool.{eqb-true, true≢false}
 use Rattle.fr_machine.specs.Refinement.{IsQueued}
 use Rattle.fr_machine.proofs.StartLaws.{IsQueued-start}
@@ -6,16 +7,35 @@ use Rattle.fr_machine.proofs.PartitionLaws.{IsRefining-start, classes-le}
 use Rattle.fr_machine.proofs.partition.refined.Goals.{then-loop-partition-test+else-len-limit, else-loop-partition-test}
 use Rattle.fr_machine.proofs.partition.refined.Goals as goal
 
+pub follow-requires-clause-of : goal.follow-requires-clause-of
+follow-requires-clause-of c =
+    let g = c.args.guess in
+    let e = c.in_ok-partition.ensures in
+    let p = c.in_ok-partition.partition in
+    let h = IsRefining-start c.requires.machine.0 c.args.rows.now c.requires.machine.1 g.of.items g.count p c.requires.guess e.of e.dirty e.known e.clean in
+    let below : All (λ x. x < length p.known.items) c.deref.result.now = rw c.deref.ensures.value h.tallied.below in
+    λ k d l. omega (arith, below k d l, classes-le p h.used, h.count, c.in_ok-members.ensures.count)
+
+pub follow-requires-clause-moved : goal.follow-requires-clause-moved
+follow-requires-clause-moved c =
+    let g = c.args.guess in
+    let e = c.in_ok-partition.ensures in
+    let p = c.in_ok-partition.partition in
+    let h = IsQueued-start (length g.of.items) p p.todo.items (ap length e.of) e.todo in
+    let inside : All (λ s. s < length p.of.items) c.deref-2.result.now = rw c.deref-2.ensures.value h.inside in
+    λ k d l. omega (arith, inside k d l, ap length e.of, c.requires.guess.size, c.in_ok-members.ensures.count)
+
 pub loop-partition-init : goal.loop-partition-init
 loop-partition-init c =
     let rows = c.args.rows.now in
+    let g = c.args.guess in
     let e = c.in_ok-partition.ensures in
     let p = c.in_ok-partition.partition in
     record {
-      refining = IsRefining-start c.requires.machine.0 rows c.requires.machine.1 p e.of e.dirty (ap length e.known) e.clean;
-      queued = IsQueued-start (length rows) p p.todo.items e.of e.todo;
-      members = c.in_ok-members.ensures.members;
-      member_count = c.in_ok-members.ensures.count;
+      refining = IsRefining-start c.requires.machine.0 rows c.requires.machine.1 g.of.items g.count p c.requires.guess e.of e.dirty e.known e.clean;
+      queued = IsQueued-start (length g.of.items) p p.todo.items (ap length e.of) e.todo;
+      members = c.follow.ensures.members;
+      member_count = c.follow.ensures.count ∙ c.in_ok-members.ensures.count;
     }
 
 some_left : (n : ℕ) → eqb n 0 ≡ false → 0 < n

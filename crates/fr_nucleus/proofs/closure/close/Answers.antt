@@ -30,7 +30,7 @@ with_products-requires-in-loop-numbering-clause-known c =
     let qs = c.args.sections.now.rows in
     let l = c.loop-numbering in
     let v = l.invariant in
-    subst (λ rows. AreProductRows c.in_ok-members-2.members.rows qs rows) (sym c.rows-in-loop-numbering.ensures.value)
+    subst (λ rows. AreProductRows c.in_ok-members-2.members.rows qs rows) (sym c.into_rows.ensures.value)
     (AreProductRows-grown l.members.rows c.in_ok-members-2.members.rows qs l.products.rows c.requires.sections.some v.table.count c.in_ok-members-2.ensures.rows.same v.table.each)
 
 pub number_products-requires-in-loop-numbering-clause-members : goal.number_products-requires-in-loop-numbering-clause-members
@@ -60,6 +60,7 @@ loop-numbering-init c =
       products_over = c.in_ok-products.ensures.alphabet ∙ over;
       members = AreMembers-identity c.args.sections.now.alphabet c.args.sections.now.rows c.in_ok-members.members.rows (omega (arith, c.alphabet.ensures.valid.few)) c.requires.sections c.in_ok-members.ensures.size c.in_ok-members.ensures.alike;
       table = c.in_ok-products.ensures.rows;
+      classes = c.in_ok-numbering.ensures.classes;
       few = omega (arith, c.in_ok-members.ensures.size, c.requires.least);
       numbers = c.in_ok-numbering.ensures.numbers;
       places = c.in_ok-numbering.ensures.places;
@@ -77,6 +78,7 @@ loop-numbering-preserved c =
       products_over = c.in_ok-products-2.ensures.alphabet ∙ over;
       members = AreMembers-grown d c.args.sections.now.rows l.members.rows l.products.rows c.alphabet.ensures.valid m c.requires.sections (omega (arith, v.few, c.requires.most)) v.members v.table c.args.most l.numbering.of.items l.numbering.walk.keys v.numbers l.numbering.places.items c.in_ok-members-2.members.rows v.places c.in_ok-members-2.ensures.rows c.in_ok-members-2.ensures.count;
       table = c.in_ok-products-2.ensures.rows;
+      classes = c.in_ok-numbering-2.ensures.classes;
       few = omega (arith, c.in_ok-members-2.ensures.count, v.numbers.few);
       numbers = c.in_ok-numbering-2.ensures.numbers;
       places = c.in_ok-numbering-2.ensures.places;

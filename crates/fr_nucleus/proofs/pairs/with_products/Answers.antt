@@ -1,4 +1,4 @@
-use Rattle.std.proofs.Common.{ℕ, arith, sym, subst, refl, ◌≡◌, ◌*◌, ◌≤◌, length}
+use Rattle.std.proofs.Common.{ℕ, arith, sym, subst, ◌*◌, ◌≤◌, length}
 use Rattle.std.proofs.lemmas.Nat.{mul-le}
 use Rattle.fr_machine.specs.Rows.{IsMachine}
 use Rattle.fr_nucleus.proofs.ProductLaws.{IsMachine-products}
@@ -9,8 +9,7 @@ from_rows-requires c =
     let m = c.args.members.now in
     let q = c.args.sections.now in
     let P : ℕ → Type 0 = λ d. IsMachine d q.rows in
-    let G : ℕ → Type 0 = λ d. IsMachine d c.loop-rows.rows.items in
+    let G : ℕ → Type 0 = λ d. IsMachine d c.push_products.new.rows.items in
     let most = mul-le (length m.rows) (length q.rows) 256 64 c.requires.few c.requires.few_too in
     let room : length m.rows * length q.rows ≤ 65536 = omega (arith, most) in
-    let same : length c.rows.result.now * length c.rows-2.result.now ≡ length m.rows * length q.rows = rw (c.rows.ensures.value, c.rows-2.ensures.value) refl in
-    subst G (sym c.alphabet.ensures.value) (IsMachine-products m.alphabet m.rows q.rows c.loop-rows.rows.items c.alphabet.ensures.valid (subst P (sym c.requires.alphabets) c.rows-2.ensures.valid) room (record { count = omega (arith, same, c.loop-rows-test.false, c.len.ensures, c.loop-rows.invariant.few); each = c.loop-rows.invariant.each }))
+    subst G (sym c.alphabet.ensures.value) (IsMachine-products m.alphabet m.rows q.rows c.push_products.new.rows.items c.rows-members.ensures.valid (subst P (sym c.requires.alphabets) c.rows-sections.ensures.valid) room c.in_ok-push_products.ensures.table)

@@ -1,9 +1,6 @@
 use Rattle.std.proofs.Common.{ℕ, ◌≡◌, ◌+◌, ◌∷◌, [], ◌++◌, ◌∙◌, arith, ap, set, length, get_or}
 use Rattle.std.specs.Vec.{with_item}
 use Rattle.std.proofs.lemmas.List.{get_or_read, length_push}
-use Rattle.fr_machine.specs.declared.key_table.KeyTable.{KeyTable}
-use Rattle.fr_machine.specs.declared.key_table.Entry.{Entry}
-use Rattle.fr_machine.specs.KeyTables.{IsKeyTable, IsEntered}
 use Rattle.fr_machine.proofs.KeyTableLaws.{entered}
 use Rattle.fr_machine.proofs.key_table.KeyTable.enter.Goals as goal
 

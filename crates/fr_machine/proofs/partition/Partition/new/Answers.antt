@@ -1,4 +1,4 @@
-use Rattle.std.proofs.Common.{arith, ◌≡◌, ◌+◌, ◌∷◌, [], ◌++◌, sym, ap, ◌∙◌, refl}
+use Rattle.std.proofs.Common.{arith, ◌≡◌, ◌+◌, ◌∷◌, [], ◌++◌, sym, ap, ◌∙◌}
 use Rattle.fr_model.specs.Permutations.{numbers_from}
 use Rattle.fr_machine.proofs.StartLaws.{numbers_from-push}
 use Rattle.fr_machine.proofs.partition.Partition.new.Goals as goal
@@ -8,12 +8,5 @@ loop-row-preserved c =
     let e : 0 + c.loop-row.row ≡ c.loop-row.row = omega arith in
     c.in_ok-push.ensures.items ∙ ap (λ xs. xs ++ c.loop-row.row ∷ []) c.loop-row.invariant ∙ sym (numbers_from-push 0 c.loop-row.row ∙ ap (λ n. numbers_from 0 c.loop-row.row ++ n ∷ []) e)
 
-pub returns : goal.returns
-returns c =
-    record {
-      of = c.in_ok-of.ensures.items_if_clones_equal (λ y e. e);
-      dirty = c.in_ok-dirty.ensures.items_if_clones_equal (λ y e. e);
-      known = c.in_ok-push-2.ensures.items ∙ rw c.new-known.ensures.items refl;
-      clean = c.in_ok-push-3.ensures.items ∙ rw c.new-clean.ensures.items refl;
-      todo = c.loop-row.invariant ∙ ap (numbers_from 0) (omega (arith, c.loop-row-test.false, c.loop-row.auto.row-end));
-    }
+pub returns-clause-todo : goal.returns-clause-todo
+returns-clause-todo c = c.loop-row.invariant ∙ ap (numbers_from 0) (omega (arith, c.loop-row-test.false, c.loop-row.auto.row-end))

@@ -4,7 +4,6 @@ use Rattle.std.proofs.lemmas.List.{get_or-map, length-map}
 use Rattle.std.proofs.lemmas.List.Elements.{All-get_or, All-from_get_or}
 use Rattle.fr_machine.specs.declared.row.Row.{Row}
 use Rattle.fr_machine.specs.declared.signature.Signed.{Signed}
-use Rattle.fr_machine.specs.declared.partition.Partition.{Partition}
 use Rattle.fr_machine.specs.Refinement.{flag_at, work_at, signature_at, signed_rows, IsElected}
 use Rattle.fr_machine.proofs.SettlingLaws.{IsSettling-start, IsSettling-placed, IsSettled-from, room}
 use Rattle.fr_machine.proofs.WorkLaws.{order_at, order_has, order_from}

@@ -1,4 +1,4 @@
-use Rattle.std.proofs.Common.{length, refl, ◌∙◌, sym, ap, arith, ◌≡◌, ◌≢◌, List, ℕ, [], ◌∷◌, subst}
+use Rattle.std.proofs.Common.{length, refl, ◌∙◌, sym, ap, arith, ◌≡◌, ◌≢◌, List, ℕ, [], subst}
 use Rattle.std.proofs.lemmas.List.{get_or_read}
 use Rattle.std.specs.Cmp.Lexicographic.{other_text}
 use Rattle.fr_machine.specs.KeyTables.{number_in, IsEntered}

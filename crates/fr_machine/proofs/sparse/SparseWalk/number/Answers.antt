@@ -1,8 +1,7 @@
-use Rattle.std.proofs.Common.{arith, ℕ, ◌≡◌, ◌≢◌, ◌+◌, ◌<◌, ◌%◌, [], ◌∷◌, ◌++◌, ◌∙◌, None, Some, sym, ap, subst, set, length, get_or}
+use Rattle.std.proofs.Common.{arith, ℕ, ◌≡◌, ◌≢◌, ◌+◌, ◌<◌, ◌%◌, [], ◌∷◌, ◌++◌, ◌∙◌, ap, subst, set, length, get_or}
 use Rattle.std.specs.Prelude.{Option, MatchOption}
 use Rattle.std.specs.Vec.{with_item}
 use Rattle.std.proofs.lemmas.List.{get_or_read}
-use Rattle.fr_machine.specs.declared.sparse.SparseWalk.{SparseWalk}
 use Rattle.fr_machine.proofs.SparseLaws.{IsSparse-met}
 use Rattle.fr_machine.proofs.sparse.SparseWalk.number.Goals as goal
 
