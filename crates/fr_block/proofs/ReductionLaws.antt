@@ -1,7 +1,7 @@
 -- Free reduction of a product at whose end more members come, and the names of reduced products and of sections.
-use Rattle.std.proofs.Common.{ℕ, zero, suc, ◌≡◌, ◌<◌, ◌-◌, inl, inr, Bool, true, false, List, [], ◌∷◌, ◌++◌, length, get_or, slice_get, Option, Some, None, IsSome, take, drop, append_assoc, subst, ◌+◌, refl, sym, ◌∙◌, ap, arith}
+use Rattle.std.proofs.Common.{ℕ, zero, suc, ◌≡◌, ◌<◌, ◌≤◌, ◌-◌, inl, inr, Bool, true, false, List, [], ◌∷◌, ◌++◌, length, get_or, set, slice_get, Option, Some, None, IsSome, take, drop, append_assoc, subst, ◌+◌, refl, sym, ◌∙◌, ap, arith}
 use Rattle.std.specs.List.{AllByRecursion}
-use Rattle.std.proofs.lemmas.List.{append-nil, get_or_past, map-append, length-map, get_or-map, take_more, drop_more, drop_all, get_or_default}
+use Rattle.std.proofs.lemmas.List.{append-nil, get_or_past, map-append, length-map, get_or-map, take_more, take_more_set, drop_more, drop_all, get_or_default}
 use Rattle.std.specs.Prelude.{option_to_list}
 use Rattle.std.proofs.lemmas.List.Elements.{All-get_or, All-from_recursion, recursion_from_All}
 use Rattle.std.proofs.lemmas.Bool.{cases_Bool, cases_lt}
@@ -111,6 +111,20 @@ popped before after (Some g) f e z h l =
 -- one member more
 pub pushed : (before after : List Member) (m : Member) → after ≡ before ++ m ∷ [] → IsReduced (product_of before) → ends_against (product_of before) (factor_of m) ≡ false → product_of after ≡ reduced (product_of before ++ factor_of m ∷ [])
 pushed before after m e h l = ap product_of e ∙ map-append factor_of before (m ∷ []) ∙ sym (reduced-push (product_of before) (factor_of m) h l)
+
+-- the first n places of a buffer hold a reduced product: its last member
+pub ends_at : (ms : List Member) (n : ℕ) (z : Member) (f : Factor) → 0 < n → n ≤ length ms → cancel (factor_of (get_or ms (n - 1) z)) f ≡ ends_against (product_of (take n ms)) f
+ends_at ms n z f some l =
+    let e : product_of (take n ms) ≡ product_of (take (n - 1) ms) ++ factor_of (get_or ms (n - 1) z) ∷ [] = ap (λ k. product_of (take k ms)) (omega (arith, some)) ∙ ap product_of (take_more ms (n - 1) z (omega (arith, some, l))) ∙ map-append factor_of (take (n - 1) ms) (get_or ms (n - 1) z ∷ []) in
+    sym (ap (λ vs. ends_against vs f) e ∙ ends_last (product_of (take (n - 1) ms)) (factor_of (get_or ms (n - 1) z)) f)
+
+-- without it
+pub popped_at : (ms : List Member) (n : ℕ) (z : Member) (f : Factor) → 0 < n → n ≤ length ms → IsReduced (product_of (take n ms)) → ends_against (product_of (take n ms)) f ≡ true → product_of (take (n - 1) ms) ≡ reduced (product_of (take n ms) ++ f ∷ [])
+popped_at ms n z f some l h e = popped (take n ms) (take (n - 1) ms) (Some (get_or ms (n - 1) z)) f (ap (λ k. take k ms) (omega (arith, some)) ∙ take_more ms (n - 1) z (omega (arith, some, l))) (λ t. refl) h e
+
+-- and with one more
+pub pushed_at : (ms : List Member) (n : ℕ) (m : Member) → n < length ms → IsReduced (product_of (take n ms)) → ends_against (product_of (take n ms)) (factor_of m) ≡ false → product_of (take (n + 1) (set ms n m)) ≡ reduced (product_of (take n ms) ++ factor_of m ∷ [])
+pushed_at ms n m l h e = pushed (take n ms) (take (n + 1) (set ms n m)) m (take_more_set ms n m l) h e
 
 pub IsReduced-is : (w fs : List Factor) → w ≡ reduced fs → IsReduced w
 IsReduced-is w fs e = subst IsReduced (sym e) (IsReduced-reduced fs)

@@ -3,7 +3,7 @@
 ghost use Rattle.std.specs.Prelude.{◌≡◌, ◌<◌, ◌≤◌, ◌↔◌, ℕ, IsSome, IfSome, IsTrue, length, not};
 ghost use Rattle.std.specs.List.{All};
 ghost use Rattle.fr_model.specs.Words.{IsLetter};
-ghost use Rattle.fr_model.specs.Permutations.{IsPermutation, image};
+ghost use Rattle.fr_model.specs.Permutations.{IsPermutation, image, preimage};
 ghost use Rattle.fr_model.specs.Systems.{wreath_at, section_at, factor_output};
 ghost use Rattle.fr_model.specs.FreeWords.{cancel};
 ghost use Rattle.fr_block.specs.Blocks.{factor_of, product_of, system_of, IsBlock, IsRecursion, AreNames};
@@ -140,6 +140,22 @@ impl Block {
         if f.inverse { perm.inverse() } else { perm }
     }
 
+    /// The letter that a name or its inverse puts out for a letter.
+    pub fn image(&self, f: Factor, x: u8) -> u8
+        requires name { f.name < length self.now.system }
+        requires letter { IsLetter self.now.alphabet x }
+        ensures value { result ≡ factor_output self.now.system (factor_of f) x }
+        ensures letter { IsLetter self.now.alphabet result }
+    {
+        // The permutation is read where it lies, since a copy for each member of a long word takes longer than the rest.
+        let perm = &self.wreaths[f.name as usize].perm;
+        if f.inverse {
+            image_back(perm, x)
+        } else {
+            perm.apply(x)
+        }
+    }
+
     /// The section of a name at a letter.
     pub fn section(&self, name: u16, x: u8) -> &[Factor]
         requires name { name < length self.now.system }
@@ -149,6 +165,18 @@ impl Block {
     {
         &self.wreaths[name as usize].sections[x as usize - 1]
     }
+}
+
+// The letter that a permutation sends to a letter. It stands apart, so that a loop over members stays small.
+#[inline(never)]
+fn image_back(perm: &Perm, x: u8) -> u8
+    requires { IsLetter (length perm.now) x }
+    ensures value { result ≡ preimage perm.now x }
+    ensures letter { IsLetter (length perm.now) result }
+{
+    // For the proof: it permutes its letters.
+    let _count = perm.letters();
+    perm.inverse().apply(x)
 }
 
 // Whether there are at most 4,095 recursions, each over so many letters and as many names.

@@ -4,7 +4,7 @@ ghost use Rattle.std.specs.Prelude.{◌≡◌, ◌+◌, ◌<◌, ◌≤◌, [], 
 ghost use Rattle.fr_block.specs.Closures.{AreClosuresPassed, AreWords, IsRowMade, IsRowPassed};
 ghost use Rattle.fr_block.specs.Elements.{StandsForNames};
 
-use crate::block::Block;
+use crate::block::{Block, Factor};
 use crate::products::section;
 use crate::words::Words;
 use fr_alphabet::{NoMemory, Perm};
@@ -28,8 +28,11 @@ pub fn closure(
     let a = block.alphabet();
     let mut words = Words::of_names(alloc, first, count)?;
     let mut rows = Vec::new(alloc);
+
+    // Each section is written here, and copied where it is new.
+    let mut word = Vec::new(alloc);
     while rows.len() < words.count() {
-        match row_of(alloc, block, &mut words, rows.len() as u16)? {
+        match row_of(alloc, block, &mut words, rows.len() as u16, &mut word)? {
             Some(row) => rows.push(row)?,
             None => return Ok(None),
         }
@@ -43,6 +46,7 @@ fn row_of(
     block: &Block,
     words: &mut Words,
     number: u16,
+    word: &mut Vec<Factor>,
 ) -> Result<Option<Row>, NoMemory>
     requires number { number < length words.old }
     requires words { AreWords block.now.system words.old }
@@ -52,9 +56,9 @@ fn row_of(
     let mut next = [0; 8];
     let mut images = [0; 8];
     for x in 0..a.letters() {
-        let found = section(alloc, block, words.word(number), x + 1)?;
+        let found = section(block, words.word(number), x + 1, word)?;
         images[x as usize] = found.image;
-        match words.number(found.word)? {
+        match words.number(alloc, &word[..found.count])? {
             Some(target) => next[x as usize] = target,
             None => return Ok(None),
         }

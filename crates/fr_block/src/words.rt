@@ -2,7 +2,7 @@
 
 ghost use Rattle.std.specs.Prelude.{◌≡◌, ◌+◌, ◌<◌, ◌≤◌, [], ℕ, IfOk, MatchOption, length, slice_index_or};
 ghost use Rattle.fr_block.specs.Blocks.{product_of};
-ghost use Rattle.fr_block.specs.Closures.{AreApart, AreNameWords, IsNumbered, IsPassed, one_name};
+ghost use Rattle.fr_block.specs.Closures.{AreApart, AreNameWords, IsNumbered, IsPassed};
 
 use crate::block::Factor;
 use fr_alphabet::NoMemory;
@@ -46,7 +46,11 @@ impl Words {
             set: IndexSet::new(alloc),
         };
         for name in first..first + count {
-            words.number(one_name(alloc, name)?)?;
+            let alone = [Factor {
+                name,
+                inverse: false,
+            }];
+            words.number(alloc, &alone)?;
         }
         Ok(words)
     }
@@ -69,29 +73,17 @@ impl Words {
 
     /// The number of a word, which it has from now on. The answer is `None` exactly where the word has more than 4,096
     /// members, or is new and 8,192 words are known. The only error is want of memory.
-    pub fn number(&mut self, word: Vec<Factor>) -> Result<Option<u16>, NoMemory>
+    pub fn number(&mut self, alloc: Global, word: &[Factor]) -> Result<Option<u16>, NoMemory>
         requires { length self.old ≤ 8192 }
-        ensures { IfOk result (λ o. MatchOption o (IsPassed self.old self.new (product_of word.items)) (λ n. IsNumbered self.old self.new (product_of word.items) n)) }
+        ensures { IfOk result (λ o. MatchOption o (IsPassed self.old self.new (product_of word.now)) (λ n. IsNumbered self.old self.new (product_of word.now) n)) }
     {
         if word.len() > MEMBER_LIMIT {
             return Ok(None);
         }
-        let (number, _) = self.set.insert_full(word)?;
+        let (number, _) = self.set.insert_full(Vec::from_slice(alloc, word)?)?;
         if self.set.len() > WORD_LIMIT {
             return Ok(None);
         }
         Ok(Some(number as u16))
     }
-}
-
-// The word of a name alone.
-fn one_name(alloc: Global, name: u16) -> Result<Vec<Factor>, NoMemory>
-    ensures { IfOk result (λ w. product_of w.items ≡ one_name name) }
-{
-    let mut word = Vec::new(alloc);
-    word.push(Factor {
-        name,
-        inverse: false,
-    })?;
-    Ok(word)
 }

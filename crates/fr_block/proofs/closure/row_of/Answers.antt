@@ -17,8 +17,8 @@ returns-in-None c =
     let s = c.args.block.now.system in
     let ws = c.args.words.now in
     let vs = c.loop-x.words in
-    let w = product_of c.in_ok-found.found.word.items in
-    let e = section_is s ws vs c.args.number c.loop-x.x (product_of c.word.result.now) w c.loop-x.invariant.part.extends c.requires.number c.word.ensures c.in_ok-found.ensures.word in
+    let w = product_of (take c.in_ok-found.found.count c.deref.result.now) in
+    let e = section_is s ws vs c.args.number c.loop-x.x (product_of c.word.result.now) w c.loop-x.invariant.part.extends c.requires.number c.word.ensures (ap (λ ms. product_of (take c.in_ok-found.found.count ms)) c.deref.ensures.value ∙ c.in_ok-found.ensures.word) in
     let p = passed_is vs c.number.new.self w c.in_ok-target.field-0 c.in_ok-target.ensures c.in-None.is in
     IsRowPassed-from d s ws vs c.number.new.self (get_or ws c.args.number []) c.loop-x.next c.loop-x.x w c.loop-x.invariant.part (omega (arith, c.loop-x-test.true, c.letters-x-end.ensures.value, c.alphabet-a.ensures.value)) e p
 
@@ -29,9 +29,9 @@ loop-x-preserved c =
     let ws = c.args.words.now in
     let vs = c.loop-x.words in
     let b = c.alphabet-a.ensures.valid in
-    let w = product_of c.in_ok-found.found.word.items in
+    let w = product_of (take c.in_ok-found.found.count c.deref.result.now) in
     let fs = get_or ws c.args.number [] in
-    let e = section_is s ws vs c.args.number c.loop-x.x (product_of c.word.result.now) w c.loop-x.invariant.part.extends c.requires.number c.word.ensures c.in_ok-found.ensures.word in
+    let e = section_is s ws vs c.args.number c.loop-x.x (product_of c.word.result.now) w c.loop-x.invariant.part.extends c.requires.number c.word.ensures (ap (λ ms. product_of (take c.in_ok-found.found.count ms)) c.deref.ensures.value ∙ c.in_ok-found.ensures.word) in
     let known = subst (AreNames s) (sym e) (AreNames-section d s b.system fs (suc c.loop-x.x) (c.requires.words.known c.args.number [] c.requires.number)) in
     let n = numbered_is vs c.number.new.self w c.in_ok-target.field-0 c.in-Some.target c.in_ok-target.ensures c.in-Some.is in
     let lt : c.loop-x.x < d = omega (arith, c.loop-x-test.true, c.letters-x-end.ensures.value, c.alphabet-a.ensures.value) in

@@ -1,4 +1,4 @@
-use Rattle.std.proofs.Common.{◌≡◌, take}
+use Rattle.std.proofs.Common.{◌≡◌, ◌≤◌, length, take}
 use Rattle.fr_model.specs.Words.{IsLetter}
 use Rattle.fr_model.specs.FreeWords.{reduced}
 use Rattle.fr_model.specs.Systems.{product_output, product_section}
@@ -7,7 +7,8 @@ use Rattle.fr_block.proofs.products.section.Given as goal
 
 abbrev pub invariant-loop-factor : goal.invariant-loop-factor
 invariant-loop-factor l = record {
-  value : product_of l.word.items ≡ reduced (product_section l.block.system (product_of (take l.factor-index l.product)) l.x);
+  within : l.count ≤ length l.word.items;
+  value : product_of (take l.count l.word.items) ≡ reduced (product_section l.block.system (product_of (take l.factor-index l.product)) l.x);
   letter : l.letter ≡ product_output l.block.system (product_of (take l.factor-index l.product)) l.x;
   valid : IsLetter l.block.alphabet l.letter;
 }
