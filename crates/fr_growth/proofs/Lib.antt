@@ -2,7 +2,6 @@ pub mod TextLaws
 pub mod WalkLaws
 pub mod BitLaws
 pub mod RowLaws
-pub mod PathLaws
 pub mod KnotLaws
 pub mod LayerLaws
 pub mod CountLaws

@@ -4,7 +4,7 @@ use Rattle.std.proofs.lemmas.List.{append-nil, length-take-le, take_more}
 use Rattle.std.proofs.lemmas.Bool.{cases_lt, cases_order, both_ways}
 use Rattle.fr_model.specs.Words.{IsLetter, IsWord}
 use Rattle.fr_model.specs.Automata.{State, next_state, state_after}
-use Rattle.fr_model.specs.Separation.{IsLexBefore}
+use Rattle.fr_model.specs.Separation.{IsLexBefore, IsShortlexBefore}
 use Rattle.fr_model.proofs.TermLaws.{IsWord-append}
 use Rattle.fr_model.proofs.CanonicalLaws.{lex_irrefl, lex_trans}
 use Rattle.fr_machine.specs.declared.row.Row.{Row}
@@ -375,3 +375,15 @@ nearest_of d rows goals from order values dist i row long l r marked v before =
 
 pub nearest_some : (d : ℕ) (rows : List Row) (goals : List Bool) (from : ℕ) (order values : List ℕ) → AreDistances d rows from order values → (w : List ℕ) → IsGoalWord d rows goals from w → ((j : ℕ) → j < length order → is_marked goals (get_or order j 0) ≡ false) → ⊥
 nearest_some d rows goals from order values dist w g none = let j = dist.whole w g.valid in both_ways (is_marked goals (get_or order j.0 0)) (none j.0 j.1) (ap (is_marked goals) j.2 ∙ g.there)
+
+-- the empty word is the least where the row is a goal itself
+none_before_empty : (v : List ℕ) → ¬ IsShortlexBefore v []
+none_before_empty v (inl l) = absurd (omega (arith, l))
+none_before_empty [] (inr e) = e.1
+none_before_empty (x ∷ v) (inr e) = e.1
+
+pub least_empty : (d : ℕ) (rows : List Row) (goals : List Bool) (s : ℕ) → is_marked goals s ≡ true → IsLeastWord d rows goals s []
+least_empty d rows goals s h = record {
+  word = record { valid = tt; there = h };
+  least = λ v g b. none_before_empty v b;
+}

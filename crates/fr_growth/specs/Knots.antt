@@ -1,68 +1,110 @@
--- A search for components, which goes along a path of knots and draws a piece of it together where a letter leads back
--- (Gabow, Path-based depth-first search for strong and biconnected components).
-use Rattle.std.specs.Prelude.{ℕ, ◌≡◌, ◌<◌, ◌≤◌, ◌+◌, ◌-◌, ◌*◌, ◌⊎◌, true, false, List, [], length, slice_index, slice_index_or}
+-- A search for components, which goes along a path of rows and draws a piece of it together where a letter leads back
+-- (Gabow, Path-based depth-first search for strong and biconnected components). The pieces, which are called knots, stand
+-- one behind the other, and are named by the places where they begin.
+use Rattle.std.specs.Prelude.{ℕ, ◌≡◌, ◌<◌, ◌≤◌, ◌+◌, ◌-◌, ◌⊎◌, List, length, slice_index, min}
+use Rattle.std.specs.List.{sum_by}
 use Rattle.fr_model.specs.Words.{IsLetter}
 use Rattle.fr_model.specs.Automata.{next_state, IsReached}
 use Rattle.fr_machine.specs.declared.row.Row.{Row}
 use Rattle.fr_machine.specs.Rows.{states_of}
-use Rattle.fr_growth.specs.declared.knots.Knot.{Knot}
 use Rattle.fr_growth.specs.declared.knots.Descent.{Descent}
-use Rattle.fr_growth.specs.Bits.{has_bit, rank_of}
 
--- a row of a knot
-abbrev pub IsIn : List Row → Knot → ℕ → Type 0
-IsIn rows k u = (u < length rows) × (has_bit k.members u ≡ true)
+-- in place of a place or a number that a row has not
+abbrev pub nowhere : ℕ
+nowhere = 65535
 
--- the knot at a place
-abbrev pub knot_at : List Knot → ℕ → Knot
-knot_at knots i = slice_index_or knots i (record { members = []; nexts = [] })
+-- the last number of a list
+abbrev pub last_of : List ℕ → ℕ
+last_of xs = slice_index xs (length xs - 1)
 
--- the last knot
-abbrev pub last_knot : List Knot → Knot
-last_knot knots = knot_at knots (length knots - 1)
+-- a number of a list
+abbrev pub IsListed : List ℕ → ℕ → Type 0
+IsListed xs a = (j : ℕ) × (j < length xs) × (slice_index xs j ≡ a)
 
--- the next rows of the rows of a knot
-pub record AreNexts (d : ℕ) (rows : List Row) (k : Knot) : Type 0 where
-  pub all : (u x : ℕ) → IsIn rows k u → IsLetter d x → has_bit k.nexts (next_state (states_of rows) u x) ≡ true
-  pub only : (t : ℕ) → t < 1024 → has_bit k.nexts t ≡ true → (u : ℕ) × (x : ℕ) × IsIn rows k u × IsLetter d x × (t ≡ next_state (states_of rows) u x)
+-- the numbers of a list rise, and are all below n
+pub record AreRising (n : ℕ) (xs : List ℕ) : Type 0 where
+  pub below : (i : ℕ) → i < length xs → slice_index xs i < n
+  pub rising : (i j : ℕ) → i < j → j < length xs → slice_index xs i < slice_index xs j
 
--- the knots of the path: each leads to itself and to the later ones, and no two share a row
-pub record IsPath (d : ℕ) (rows : List Row) (knots : List Knot) (seen done : List ℕ) : Type 0 where
-  pub linked : (i j u v : ℕ) → i ≤ j → j < length knots → IsIn rows (knot_at knots i) u → IsIn rows (knot_at knots j) v → IsReached d (states_of rows) u v
-  pub nexts : (i : ℕ) → i < length knots → AreNexts d rows (knot_at knots i)
-  pub inside : (i u : ℕ) → i < length knots → u < 1024 → has_bit (knot_at knots i).members u ≡ true → u < length rows
-  pub apart : (i j u : ℕ) → i < j → j < length knots → IsIn rows (knot_at knots i) u → ¬ IsIn rows (knot_at knots j) u
-  pub waiting : (i u : ℕ) → i < length knots → IsIn rows (knot_at knots i) u → (has_bit done u ≡ false) × (has_bit seen u ≡ true)
-  pub placed : (u : ℕ) → u < length rows → has_bit seen u ≡ true → (has_bit done u ≡ true) ⊎ ((i : ℕ) × (i < length knots) × IsIn rows (knot_at knots i) u)
+-- the rows of a path and their places
+pub record IsPath (n : ℕ) (path places : List ℕ) : Type 0 where
+  pub size : length places ≡ n
+  pub row : (a : ℕ) → a < length path → slice_index path a < n
+  pub there : (a : ℕ) → a < length path → slice_index places (slice_index path a) ≡ a
+  pub back : (u : ℕ) → u < n → slice_index places u < length path → slice_index path (slice_index places u) ≡ u
+
+-- the place b is in the knot of the place a, or in a later one
+abbrev pub IsBehind : List ℕ → ℕ → ℕ → Type 0
+IsBehind bounds a b = (i : ℕ) → i < length bounds → slice_index bounds i ≤ a → slice_index bounds i ≤ b
+
+-- the knots of a path: each leads to itself and to the later ones
+pub record AreKnots (d : ℕ) (rows : List Row) (path bounds : List ℕ) : Type 0 where
+  pub begins : AreRising (length path) bounds
+  pub first : 0 < length path → (0 < length bounds) × (slice_index bounds 0 ≡ 0)
+  pub linked : (a b : ℕ) → a < length path → b < length path → IsBehind bounds a b → IsReached d (states_of rows) (slice_index path a) (slice_index path b)
+
+-- the places whose rows have letters that were not looked at, and where the knots begin
+pub record IsWalk (d : ℕ) (path bounds walk letters : List ℕ) : Type 0 where
+  pub places : AreRising (length path) walk
+  pub whole : (a : ℕ) → a < length path → slice_index letters (slice_index path a) ≤ d → IsListed walk a
+  pub begins : (i : ℕ) → i < length bounds → IsListed walk (slice_index bounds i)
+
+-- a row was not met, or is on the path, or has its number
+abbrev pub IsNew : List ℕ → List ℕ → List ℕ → ℕ → Type 0
+IsNew places numbers letters u = (slice_index letters u ≡ 0) × (slice_index places u ≡ nowhere) × (slice_index numbers u ≡ nowhere)
+
+abbrev pub IsOnPath : List ℕ → List ℕ → List ℕ → List ℕ → ℕ → Type 0
+IsOnPath path places numbers letters u = (1 ≤ slice_index letters u) × (slice_index places u < length path) × (slice_index numbers u ≡ nowhere)
+
+abbrev pub IsDone : List ℕ → List ℕ → List ℕ → ℕ → ℕ → Type 0
+IsDone places numbers letters count u = (1 ≤ slice_index letters u) × (slice_index places u ≡ nowhere) × (slice_index numbers u < count)
+
+pub record AreMet (d n : ℕ) (path places numbers letters : List ℕ) (count : ℕ) : Type 0 where
+  pub numbers_size : length numbers ≡ n
+  pub letters_size : length letters ≡ n
+  pub cases : (u : ℕ) → u < n → IsNew places numbers letters u ⊎ IsOnPath path places numbers letters u ⊎ IsDone places numbers letters count u
+
+-- the row t has its number, or is in the knot of the place a or in a later one
+abbrev pub IsSettled : List ℕ → List ℕ → List ℕ → List ℕ → ℕ → ℕ → ℕ → Type 0
+IsSettled path bounds places numbers count a t = (slice_index numbers t < count) ⊎ ((slice_index places t < length path) × IsBehind bounds a (slice_index places t))
+
+-- letters that were looked at lead to no earlier knot
+abbrev pub AreLooked : ℕ → List Row → List ℕ → List ℕ → List ℕ → List ℕ → List ℕ → ℕ → Type 0
+AreLooked d rows path bounds places numbers letters count =
+    (a x : ℕ) → a < length path → IsLetter d x → x < slice_index letters (slice_index path a) → IsSettled path bounds places numbers count a (next_state (states_of rows) (slice_index path a) x)
 
 -- the rows that have their number, which are closed under going on
-pub record AreNumbered (d : ℕ) (rows : List Row) (done numbers order : List ℕ) (count : ℕ) : Type 0 where
-  pub size : length numbers ≡ length rows
-  pub closed : (u x : ℕ) → u < length rows → has_bit done u ≡ true → IsLetter d x → has_bit done (next_state (states_of rows) u x) ≡ true
-  pub falls : (u x : ℕ) → u < length rows → has_bit done u ≡ true → IsLetter d x → slice_index numbers (next_state (states_of rows) u x) ≤ slice_index numbers u
-  pub joined : (u v : ℕ) → u < length rows → v < length rows → has_bit done u ≡ true → has_bit done v ≡ true → slice_index numbers u ≡ slice_index numbers v → IsReached d (states_of rows) u v
-  pub below : (u : ℕ) → u < length rows → has_bit done u ≡ true → slice_index numbers u < count
-  pub ordered : (i : ℕ) → i < length order → (slice_index order i < length rows) × (has_bit done (slice_index order i) ≡ true)
-  pub whole : (u : ℕ) → u < length rows → has_bit done u ≡ true → (i : ℕ) × (i < length order) × (slice_index order i ≡ u)
+pub record AreNumbered (d : ℕ) (rows : List Row) (numbers order : List ℕ) (count : ℕ) : Type 0 where
+  pub falls : (u x : ℕ) → u < length rows → slice_index numbers u < count → IsLetter d x → slice_index numbers (next_state (states_of rows) u x) ≤ slice_index numbers u
+  pub joined : (u v : ℕ) → u < length rows → v < length rows → slice_index numbers u < count → slice_index numbers u ≡ slice_index numbers v → IsReached d (states_of rows) u v
+  pub ordered : (i : ℕ) → i < length order → (slice_index order i < length rows) × (slice_index numbers (slice_index order i) < count)
+  pub whole : (u : ℕ) → u < length rows → slice_index numbers u < count → IsListed order u
   pub rising : (i j : ℕ) → i < j → j < length order → slice_index numbers (slice_index order i) ≤ slice_index numbers (slice_index order j)
+
+-- how many rows were met
+abbrev pub met_rows : List ℕ → ℕ
+met_rows letters = sum_by (λ x. min x 1) letters
 
 -- the state of a descent
 pub record IsDescent (d : ℕ) (rows : List Row) (descent : Descent) : Type 0 where
-  pub path : IsPath d rows descent.knots.items descent.seen descent.done
-  pub numbered : AreNumbered d rows descent.done descent.numbers.items descent.order.items descent.count
-  pub begun : has_bit descent.seen 0 ≡ true
-  pub few : descent.count + length descent.knots.items ≤ rank_of descent.seen (length rows)
+  pub path : IsPath (length rows) descent.path.items descent.places.items
+  pub knots : AreKnots d rows descent.path.items descent.bounds.items
+  pub walk : IsWalk d descent.path.items descent.bounds.items descent.walk.items descent.letters.items
+  pub met : AreMet d (length rows) descent.path.items descent.places.items descent.numbers.items descent.letters.items descent.count
+  pub looked : AreLooked d rows descent.path.items descent.bounds.items descent.places.items descent.numbers.items descent.letters.items descent.count
+  pub numbered : AreNumbered d rows descent.numbers.items descent.order.items descent.count
+  pub few : descent.count + length descent.path.items ≤ met_rows descent.letters.items
 
--- what is left to do: each row is met once, and each knot ends once
+-- what is left to do: each letter of each row is looked at once, and each row is left once
 abbrev pub work : ℕ → Descent → ℕ
-work n descent = 2 * (n - rank_of descent.seen n) + length descent.knots.items
+work d descent = sum_by (λ x. d + 1 - x) descent.letters.items + length descent.walk.items
 
--- the rows of a knot got a number
-pub record IsNumbering (rows : List Row) (k : Knot) (number : ℕ) (done numbers order done' numbers' order' : List ℕ) : Type 0 where
-  pub size : length numbers' ≡ length numbers
-  pub keeps : (u : ℕ) → u < length rows → has_bit done u ≡ true → (has_bit done' u ≡ true) × (slice_index numbers' u ≡ slice_index numbers u)
-  pub only : (u : ℕ) → u < length rows → has_bit done' u ≡ true → (has_bit done u ≡ true) ⊎ (IsIn rows k u × (slice_index numbers' u ≡ number))
-  pub longer : length order ≤ length order'
-  pub front : (i : ℕ) → i < length order → slice_index order' i ≡ slice_index order i
-  pub added : (i : ℕ) → length order ≤ i → i < length order' → IsIn rows k (slice_index order' i) × (has_bit done' (slice_index order' i) ≡ true)
-  pub whole : (u : ℕ) → u < length rows → has_bit done' u ≡ true → (has_bit done u ≡ true) ⊎ ((i : ℕ) × (i < length order') × (slice_index order' i ≡ u))
+-- the rows at the places from begin up to i of a path got a number
+pub record IsNumbering (n : ℕ) (path : List ℕ) (begin i count : ℕ) (places numbers order places' numbers' order' : List ℕ) : Type 0 where
+  pub places_size : length places' ≡ length places
+  pub numbers_size : length numbers' ≡ length numbers
+  pub given : (u : ℕ) → u < n → begin ≤ slice_index places u → slice_index places u < i → (slice_index places' u ≡ nowhere) × (slice_index numbers' u ≡ count)
+  pub kept : (u : ℕ) → u < n → (slice_index places u < begin) ⊎ (i ≤ slice_index places u) → (slice_index places' u ≡ slice_index places u) × (slice_index numbers' u ≡ slice_index numbers u)
+  pub longer : length order' ≡ length order + (i - begin)
+  pub front : (j : ℕ) → j < length order → slice_index order' j ≡ slice_index order j
+  pub added : (a : ℕ) → begin ≤ a → a < i → slice_index order' (length order + (a - begin)) ≡ slice_index path a

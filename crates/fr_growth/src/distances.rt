@@ -41,7 +41,7 @@ impl Distances {
         ensures { IfOk result (λ r. IsSearch m.now.alphabet m.now.rows from r.rows.items r.values.items r.seen 0 0) }
     {
         let _known = m.machine();
-        let mut rows = Vec::new(alloc);
+        let mut rows = Vec::with_capacity(alloc, m.size() as usize)?;
         rows.push(from)?;
         let mut seen = [0; 16];
         put(&mut seen, from);

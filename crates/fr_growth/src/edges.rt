@@ -43,7 +43,7 @@ pub fn find_edges(
     let _from = from;
     let _known = m.machine();
     let mut edges = Edges {
-        list: Vec::new(alloc),
+        list: Vec::with_capacity(alloc, 2 * m.size() as usize)?,
         latest: vec![in alloc; 0usize; m.size() as usize]?,
     };
     let mut place = distances.rows.len();

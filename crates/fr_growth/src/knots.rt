@@ -1,11 +1,11 @@
 //! The components of a machine.
 
-ghost use Rattle.std.specs.Prelude.{◌≡◌, ℕ, ◌<◌, ◌==◌, true, false, IfOk, OnOk, length, slice_index};
-ghost use Rattle.fr_growth.specs.Bits.{has_bit, IsOutside, AreCovered};
+ghost use Rattle.std.specs.Prelude.{◌≡◌, ℕ, ◌+◌, ◌-◌, ◌<◌, ◌≤◌, IfOk, OnOk, length, slice_index};
+ghost use Rattle.fr_model.specs.Automata.{IsReached};
+ghost use Rattle.fr_machine.specs.Rows.{states_of};
 ghost use Rattle.fr_growth.specs.Components.{AreComponents, AreInOrder};
-ghost use Rattle.fr_growth.specs.Knots.{IsIn, AreNexts, IsDescent, IsNumbering, work, last_knot};
+ghost use Rattle.fr_growth.specs.Knots.{IsPath, IsDescent, IsSettled, IsNumbering, last_of, work};
 
-use crate::bits::{BitRow, first_outside, has, join, put};
 use fr_alphabet::NoMemory;
 use fr_machine::Minimal;
 use std::alloc::Global;
@@ -29,21 +29,21 @@ impl Components {
     }
 }
 
-// Rows that are reached from each other, and their next rows.
-#[derive(Clone, Copy)]
-struct Knot {
-    members: BitRow,
-    nexts: BitRow,
-}
+// In place of a place or a number that a row has not.
+const NOWHERE: u16 = u16::MAX;
 
-// A descent along a path of knots.
+// A descent along a path of rows. Pieces of the path, the knots, hold rows that are reached from each other.
 #[derive(Drop)]
 struct Descent {
-    knots: Vec<Knot>,
-    // The rows that were met.
-    seen: BitRow,
-    // The rows that have a number.
-    done: BitRow,
+    path: Vec<u16>,
+    // The places on the path where its knots begin.
+    bounds: Vec<u16>,
+    // The places of the rows that were not left, of which the last is looked at.
+    walk: Vec<u16>,
+    // For each row its first letter that was not looked at; 0 until the row is met.
+    letters: Vec<u8>,
+    // For each row its place on the path.
+    places: Vec<u16>,
     numbers: Vec<u16>,
     order: Vec<u16>,
     count: u16,
@@ -58,9 +58,10 @@ pub fn find_components(alloc: Global, m: &Minimal) -> Result<Components, NoMemor
     ensures order { IfOk result (λ c. AreInOrder (length m.now.rows) c.numbers.items c.order.items) }
 {
     let _known = m.machine();
-    let mut descent = begun(alloc, m)?;
-    while !descent.knots.is_empty() {
-        step(m, &mut descent)?;
+    let mut descent = Descent::new(alloc, m)?;
+    descent.enter(m, 0)?;
+    while !descent.walk.is_empty() {
+        descent.step(m)?;
     }
     Ok(Components {
         numbers: descent.numbers,
@@ -68,125 +69,171 @@ pub fn find_components(alloc: Global, m: &Minimal) -> Result<Components, NoMemor
     })
 }
 
-// A descent that has met row 0.
-fn begun(alloc: Global, m: &Minimal) -> Result<Descent, NoMemory>
-    ensures { IfOk result (λ descent. IsDescent m.now.alphabet m.now.rows descent) }
-{
-    let _known = m.machine();
-    let mut knots = Vec::new(alloc);
-    knots.push(knot_of(m, 0))?;
-    let mut seen = [0; 16];
-    put(&mut seen, 0);
-    Ok(Descent {
-        knots,
-        seen,
-        done: [0; 16],
-        numbers: vec![in alloc; 0u16; m.size() as usize]?,
-        order: Vec::new(alloc),
-        count: 0,
-    })
-}
-
-// A row by itself.
-fn knot_of(m: &Minimal, t: u16) -> Knot
-    requires { t < length m.now.rows }
-    ensures members { (u : ℕ) → u < 1024 → has_bit result.members u ≡ (u == t) }
-    ensures nexts { AreNexts m.now.alphabet m.now.rows result }
-{
-    let machine = m.machine();
-    let mut members = [0; 16];
-    put(&mut members, t);
-    let mut nexts = [0; 16];
-    for x in 0..machine.alphabet().letters() {
-        put(&mut nexts, machine.next(t, x + 1));
+impl Descent {
+    // A descent that has met no row.
+    fn new(alloc: Global, m: &Minimal) -> Result<Descent, NoMemory>
+        ensures descent { IfOk result (λ descent. IsDescent m.now.alphabet m.now.rows descent) }
+        ensures empty { IfOk result (λ descent. length descent.path.items ≡ 0) }
+        ensures fresh { IfOk result (λ descent. slice_index descent.letters.items 0 ≡ 0) }
+    {
+        let _known = m.machine();
+        let size = m.size() as usize;
+        Ok(Descent {
+            path: Vec::with_capacity(alloc, size)?,
+            bounds: Vec::with_capacity(alloc, size)?,
+            walk: Vec::with_capacity(alloc, size)?,
+            letters: vec![in alloc; 0u8; size]?,
+            places: vec![in alloc; NOWHERE; size]?,
+            numbers: vec![in alloc; NOWHERE; size]?,
+            order: Vec::with_capacity(alloc, size)?,
+            count: 0,
+        })
     }
-    Knot { members, nexts }
-}
 
-// One step: the last knot is drawn together with the one before, or is done, or a row that is new comes behind it.
-fn step(m: &Minimal, descent: &mut Descent) -> Result<(), NoMemory>
-    requires descent { IsDescent m.now.alphabet m.now.rows descent.old }
-    requires some { 0 < length descent.old.knots.items }
-    ensures descent { OnOk result (IsDescent m.now.alphabet m.now.rows descent.new) }
-    ensures less { OnOk result (work (length m.now.rows) descent.new < work (length m.now.rows) descent.old) }
-{
-    let _known = m.machine();
-    let last = descent.knots[descent.knots.len() - 1];
-    match first_outside(&last.nexts, &last.members, &descent.done) {
-        None => finish(m, descent),
-        Some(t) => {
-            if has(&descent.seen, t) {
-                draw_together(m, descent, t)
-            } else {
-                go_on(m, descent, t)
-            }
+    // Puts a new row behind the path, as a knot by itself.
+    fn enter(&mut self, m: &Minimal, row: u16) -> Result<(), NoMemory>
+        requires descent { IsDescent m.now.alphabet m.now.rows self.old }
+        requires row { row < length m.now.rows }
+        requires fresh { slice_index self.old.letters.items row ≡ 0 }
+        requires reached { (a : ℕ) → a < length self.old.path.items → IsReached m.now.alphabet (states_of m.now.rows) (slice_index self.old.path.items a) row }
+        ensures descent { OnOk result (IsDescent m.now.alphabet m.now.rows self.new) }
+        ensures work { OnOk result (work m.now.alphabet self.new ≤ work m.now.alphabet self.old) }
+        ensures path { OnOk result (length self.new.path.items ≡ length self.old.path.items + 1) }
+        ensures place { OnOk result (slice_index self.new.places.items row ≡ length self.old.path.items) }
+        ensures kept { OnOk result ((a : ℕ) → a < length self.old.path.items → slice_index self.new.path.items a ≡ slice_index self.old.path.items a) }
+        ensures letter { OnOk result (slice_index self.new.letters.items row ≡ 1) }
+        ensures letters { OnOk result ((u : ℕ) → 1 ≤ slice_index self.old.letters.items u → slice_index self.new.letters.items u ≡ slice_index self.old.letters.items u) }
+    {
+        let _known = m.machine();
+        let place = self.path.len() as u16;
+        self.path.push(row)?;
+        self.bounds.push(place)?;
+        self.walk.push(place)?;
+        self.letters[row as usize] = 1;
+        self.places[row as usize] = place;
+        Ok(())
+    }
+
+    // One step: the last row of the walk looks at its next letter, or is left.
+    fn step(&mut self, m: &Minimal) -> Result<(), NoMemory>
+        requires descent { IsDescent m.now.alphabet m.now.rows self.old }
+        requires some { 0 < length self.old.walk.items }
+        ensures descent { OnOk result (IsDescent m.now.alphabet m.now.rows self.new) }
+        ensures less { OnOk result (work m.now.alphabet self.new < work m.now.alphabet self.old) }
+        ensures letters { OnOk result ((u : ℕ) → 1 ≤ slice_index self.old.letters.items u → 1 ≤ slice_index self.new.letters.items u) }
+    {
+        let machine = m.machine();
+        let place = self.walk[self.walk.len() - 1];
+        let row = self.path[place as usize];
+        let letter = self.letters[row as usize];
+        if letter > machine.alphabet().letters() {
+            return self.leave(m, place);
+        }
+        self.meet(m, place, machine.next(row, letter))?;
+        self.letters[row as usize] = letter + 1;
+        Ok(())
+    }
+
+    // The last row of the walk leads to a row: a new one is entered, and with one of the path the knots are drawn together.
+    fn meet(&mut self, m: &Minimal, place: u16, target: u16) -> Result<(), NoMemory>
+        requires descent { IsDescent m.now.alphabet m.now.rows self.old }
+        requires some { 0 < length self.old.walk.items }
+        requires place { place ≡ last_of self.old.walk.items }
+        requires target { target < length m.now.rows }
+        requires reached { IsReached m.now.alphabet (states_of m.now.rows) (slice_index self.old.path.items place) target }
+        ensures descent { OnOk result (IsDescent m.now.alphabet m.now.rows self.new) }
+        ensures work { OnOk result (work m.now.alphabet self.new ≤ work m.now.alphabet self.old) }
+        ensures place { OnOk result (place < length self.new.path.items) }
+        ensures row { OnOk result (slice_index self.new.path.items place ≡ slice_index self.old.path.items place) }
+        ensures letters { OnOk result ((u : ℕ) → 1 ≤ slice_index self.old.letters.items u → slice_index self.new.letters.items u ≡ slice_index self.old.letters.items u) }
+        ensures settled { OnOk result (IsSettled self.new.path.items self.new.bounds.items self.new.places.items self.new.numbers.items self.new.count place target) }
+    {
+        let _known = m.machine();
+        if self.letters[target as usize] == 0 {
+            return self.enter(m, target);
+        }
+        self.draw_together(m, place, target);
+        Ok(())
+    }
+
+    // Makes one knot of all from that of a row on. A row that has its number is in none.
+    fn draw_together(&mut self, m: &Minimal, place: u16, target: u16)
+        requires descent { IsDescent m.now.alphabet m.now.rows self.old }
+        requires some { 0 < length self.old.walk.items }
+        requires place { place ≡ last_of self.old.walk.items }
+        requires target { target < length m.now.rows }
+        requires reached { IsReached m.now.alphabet (states_of m.now.rows) (slice_index self.old.path.items place) target }
+        ensures descent { IsDescent m.now.alphabet m.now.rows self.new }
+        ensures path { self.new.path ≡ self.old.path }
+        ensures walk { self.new.walk ≡ self.old.walk }
+        ensures letters { self.new.letters ≡ self.old.letters }
+        ensures places { self.new.places ≡ self.old.places }
+        ensures last { (i : ℕ) → i < length self.new.bounds.items → slice_index self.new.bounds.items i ≤ slice_index self.new.places.items target }
+    {
+        let _known = m.machine();
+        let begin = self.places[target as usize];
+        while self.bounds[self.bounds.len() - 1] > begin {
+            self.bounds.pop();
         }
     }
-}
 
-// The last knot leads on to a new row.
-fn go_on(m: &Minimal, descent: &mut Descent, t: u16) -> Result<(), NoMemory>
-    requires descent { IsDescent m.now.alphabet m.now.rows descent.old }
-    requires some { 0 < length descent.old.knots.items }
-    requires last { IsOutside (last_knot descent.old.knots.items).nexts (last_knot descent.old.knots.items).members descent.old.done t }
-    requires fresh { has_bit descent.old.seen t ≡ false }
-    ensures descent { OnOk result (IsDescent m.now.alphabet m.now.rows descent.new) }
-    ensures less { OnOk result (work (length m.now.rows) descent.new < work (length m.now.rows) descent.old) }
-{
-    let _known = m.machine();
-    descent.knots.push(knot_of(m, t))?;
-    put(&mut descent.seen, t);
-    Ok(())
-}
-
-// The last knot leads back to a row of an earlier one.
-fn draw_together(m: &Minimal, descent: &mut Descent, t: u16) -> Result<(), NoMemory>
-    requires descent { IsDescent m.now.alphabet m.now.rows descent.old }
-    requires some { 0 < length descent.old.knots.items }
-    requires last { IsOutside (last_knot descent.old.knots.items).nexts (last_knot descent.old.knots.items).members descent.old.done t }
-    requires met { has_bit descent.old.seen t ≡ true }
-    ensures descent { OnOk result (IsDescent m.now.alphabet m.now.rows descent.new) }
-    ensures less { OnOk result (work (length m.now.rows) descent.new < work (length m.now.rows) descent.old) }
-{
-    let _known = m.machine();
-    let last = descent.knots.pop().unwrap();
-    let mut before = descent.knots.pop().unwrap();
-    join(&mut before.members, &last.members);
-    join(&mut before.nexts, &last.nexts);
-    descent.knots.push(before)?;
-    Ok(())
-}
-
-// The last knot leads nowhere else, so it is a component.
-fn finish(m: &Minimal, descent: &mut Descent) -> Result<(), NoMemory>
-    requires descent { IsDescent m.now.alphabet m.now.rows descent.old }
-    requires some { 0 < length descent.old.knots.items }
-    requires last { AreCovered (last_knot descent.old.knots.items).nexts (last_knot descent.old.knots.items).members descent.old.done }
-    ensures descent { OnOk result (IsDescent m.now.alphabet m.now.rows descent.new) }
-    ensures less { OnOk result (work (length m.now.rows) descent.new < work (length m.now.rows) descent.old) }
-{
-    let _known = m.machine();
-    let last = descent.knots.pop().unwrap();
-    number(m, descent, &last)?;
-    descent.count += 1;
-    Ok(())
-}
-
-// Gives the rows of a knot the next number.
-fn number(m: &Minimal, descent: &mut Descent, knot: &Knot) -> Result<(), NoMemory>
-    requires size { length descent.old.numbers.items ≡ length m.now.rows }
-    requires rows { (u : ℕ) → u < 1024 → has_bit knot.now.members u ≡ true → u < length m.now.rows }
-    ensures knots { descent.new.knots ≡ descent.old.knots }
-    ensures seen { descent.new.seen ≡ descent.old.seen }
-    ensures count { descent.new.count ≡ descent.old.count }
-    ensures numbers { OnOk result (IsNumbering m.now.rows knot.now descent.old.count descent.old.done descent.old.numbers.items descent.old.order.items descent.new.done descent.new.numbers.items descent.new.order.items) }
-    ensures all { OnOk result (AreCovered knot.now.members descent.new.done descent.new.done) }
-{
-    let _known = m.machine();
-    while let Some(s) = first_outside(&knot.members, &descent.done, &descent.done) {
-        descent.numbers[s as usize] = descent.count;
-        descent.order.push(s)?;
-        put(&mut descent.done, s);
+    // Leaves the last row of the walk, and with it the knot that begins there.
+    fn leave(&mut self, m: &Minimal, place: u16) -> Result<(), NoMemory>
+        requires descent { IsDescent m.now.alphabet m.now.rows self.old }
+        requires some { 0 < length self.old.walk.items }
+        requires place { place ≡ last_of self.old.walk.items }
+        requires whole { m.now.alphabet < slice_index self.old.letters.items (slice_index self.old.path.items place) }
+        ensures descent { OnOk result (IsDescent m.now.alphabet m.now.rows self.new) }
+        ensures less { OnOk result (work m.now.alphabet self.new < work m.now.alphabet self.old) }
+        ensures letters { self.new.letters ≡ self.old.letters }
+    {
+        let _known = m.machine();
+        if self.bounds[self.bounds.len() - 1] == place {
+            return self.finish(m);
+        }
+        self.walk.pop();
+        Ok(())
     }
-    Ok(())
+
+    // The last knot leads nowhere else, so it is a component.
+    fn finish(&mut self, m: &Minimal) -> Result<(), NoMemory>
+        requires descent { IsDescent m.now.alphabet m.now.rows self.old }
+        requires some { 0 < length self.old.walk.items }
+        requires knots { 0 < length self.old.bounds.items }
+        requires place { last_of self.old.bounds.items ≡ last_of self.old.walk.items }
+        requires whole { m.now.alphabet < slice_index self.old.letters.items (slice_index self.old.path.items (last_of self.old.walk.items)) }
+        ensures descent { OnOk result (IsDescent m.now.alphabet m.now.rows self.new) }
+        ensures less { OnOk result (work m.now.alphabet self.new < work m.now.alphabet self.old) }
+        ensures letters { self.new.letters ≡ self.old.letters }
+    {
+        let _known = m.machine();
+        self.walk.pop();
+        let begin = self.bounds.pop().unwrap() as usize;
+        self.number(m, begin)?;
+        self.path.truncate(begin);
+        self.count += 1;
+        Ok(())
+    }
+
+    // Gives the rows from a place on the next number.
+    fn number(&mut self, m: &Minimal, begin: usize) -> Result<(), NoMemory>
+        requires path { IsPath (length m.now.rows) self.old.path.items self.old.places.items }
+        requires numbers { length self.old.numbers.items ≡ length m.now.rows }
+        requires begin { begin ≤ length self.old.path.items }
+        ensures path { self.new.path ≡ self.old.path }
+        ensures bounds { self.new.bounds ≡ self.old.bounds }
+        ensures walk { self.new.walk ≡ self.old.walk }
+        ensures letters { self.new.letters ≡ self.old.letters }
+        ensures count { self.new.count ≡ self.old.count }
+        ensures numbering { OnOk result (IsNumbering (length m.now.rows) self.old.path.items begin (length self.old.path.items) self.old.count self.old.places.items self.old.numbers.items self.old.order.items self.new.places.items self.new.numbers.items self.new.order.items) }
+    {
+        let _known = m.machine();
+        for place in begin..self.path.len() {
+            let row = self.path[place];
+            self.order.push(row)?;
+            self.numbers[row as usize] = self.count;
+            self.places[row as usize] = NOWHERE;
+        }
+        Ok(())
+    }
 }

@@ -7,7 +7,7 @@ pub loop-place-init : goal.loop-place-init
 loop-place-init c =
     let long : c.len-place.result ≡ length c.args.distances.now.rows.items = omega (arith, c.len-place.ensures, c.args.distances.now.rows.ok.0) in
     record {
-      edges = rw (long, c.new.ensures.items) (edges_none c.args.m.now.alphabet c.args.m.now.rows c.args.distances.now.rows.items c.args.distances.now.values.items c.in_ok-vec.field-0.items (omega (arith, c.in_ok-vec.ensures.len, c.size.ensures))
+      edges = rw (long, c.in_ok-with_capacity.ensures.items) (edges_none c.args.m.now.alphabet c.args.m.now.rows c.args.distances.now.rows.items c.args.distances.now.values.items c.in_ok-vec.field-0.items (omega (arith, c.in_ok-vec.ensures.len, c.size.ensures))
           (λ u. ap (λ z. get_or z u 0) (c.in_ok-vec.ensures.items_if_clones_equal (λ y e. e)) ∙ nought_at _ u));
       place = omega (arith, long);
     }
