@@ -4,3 +4,4 @@ pub mod FormLaws
 pub mod ImageLaws
 pub mod ReadingLaws
 pub mod RoundLaws
+pub mod DivisorLaws

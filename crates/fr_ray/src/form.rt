@@ -1,6 +1,6 @@
 //! Where the canonical form of a ray stands in letters that it begins with, of which those from a place on are its period.
 
-ghost use Rattle.std.specs.Prelude.{ℕ, ◌≡◌, ◌+◌, ◌<◌, ◌≤◌, ◌↔◌, IsNone, IsTrue, IfSome, drop, length, take};
+ghost use Rattle.std.specs.Prelude.{ℕ, ◌≡◌, ◌+◌, ◌<◌, ◌≤◌, ◌⊎◌, ◌↔◌, IsNone, IsTrue, IfSome, drop, length, take};
 ghost use Rattle.fr_model.specs.Words.{IsWord};
 ghost use Rattle.fr_ray.specs.Forms.{IsForm, IsLongRay, IsPeriod, IsPrimitive, IsRolled};
 
@@ -31,19 +31,42 @@ impl Form {
     }
 }
 
-// The least divisor of the length after which the letters come again, unless it is above the limit.
+// The least divisor of the length after which the letters come again, unless it is above the limit. Each divisor up to the
+// root is tried together with its cofactor.
 fn primitive_period(letters: &[u8]) -> Option<usize>
     requires { 0 < length letters.now }
     ensures found { IfSome result (IsPrimitive letters.now) }
     ensures passed { IsNone result → (p : ℕ) → IsPrimitive letters.now p → 4096 < p }
 {
-    let most = letters.len().min(LETTER_LIMIT);
-    for p in 1..most + 1 {
+    let count = letters.len();
+    let mut best = count;
+    let mut p = 1;
+    while p <= count / p {
         if is_period(letters, p) {
             return Some(p);
         }
+        best = better_period(letters, count / p, best);
+        p += 1;
     }
-    None
+    if best > LETTER_LIMIT {
+        None
+    } else {
+        Some(best)
+    }
+}
+
+// The first number where it is a period within the limit, and else the second.
+fn better_period(letters: &[u8], p: usize, best: usize) -> usize
+    requires some { 0 < p }
+    requires within { p ≤ length letters.now }
+    ensures better { IsPeriod letters.now p → p ≤ 4096 → result ≡ p }
+    ensures only { (result ≡ best) ⊎ ((result ≡ p) × IsPeriod letters.now p) }
+{
+    if p <= LETTER_LIMIT && is_period(letters, p) {
+        p
+    } else {
+        best
+    }
 }
 
 // Whether p divides the length, and the letters come again after p.
