@@ -1,5 +1,5 @@
 -- Answers that were found for the row of a machine are those of each term that acts alike.
-use Rattle.std.proofs.Common.{ℕ, ◌≡◌, inl, inr, Result, Ok, Err, List, [], ◌∷◌, ◌++◌, Some, refl, sym, ◌∙◌, ap, append_assoc, arith}
+use Rattle.std.proofs.Common.{ℕ, ◌≡◌, inl, inr, Result, Ok, Err, ◌<◌, List, [], ◌∷◌, ◌++◌, length, map, Some, refl, sym, ◌∙◌, ap, append_assoc, arith}
 use Rattle.std.specs.Prelude.{codes, OnOk}
 use Rattle.fr_model.specs.Terms.{Term, act, IsAlike}
 use Rattle.fr_model.specs.Words.{IsLetter, IsWord}
@@ -60,17 +60,10 @@ letter_separates d t u p q x f g h = record {
     below (y ∷ z ∷ v) w (inl shorter) = absurd (omega (arith, shorter))
     below (y ∷ z ∷ v) w (inr (same, lex)) = absurd (omega (arith, same))
 
-pub letter_text : (t u : Term) (x y z : ℕ) → act t (x ∷ []) ≡ y ∷ [] → act u (x ∷ []) ≡ z ∷ []
-    → codes "differ at " ++ word_text (x ∷ []) ++ codes ": " ++ word_text (y ∷ []) ++ codes " / " ++ word_text (z ∷ []) ≡ comparison_text t u (Some (x ∷ []))
-letter_text t u x y z f g = rw (f, g) refl
-
--- the pieces of that text
-pub letter_text-pieces : (x y z : ℕ) (old o1 o2 o3 o4 o5 o6 o7 : List ℕ) → o1 ≡ old ++ codes "differ at " → o2 ≡ o1 ++ letter_digit x ∷ [] → o3 ≡ o2 ++ codes ": " → o4 ≡ o3 ++ letter_digit y ∷ []
-    → o5 ≡ o4 ++ codes " / " → o6 ≡ o5 ++ letter_digit z ∷ [] → o7 ≡ o6 ++ 10 ∷ []
-    → o7 ≡ old ++ line_of (codes "differ at " ++ word_text (x ∷ []) ++ codes ": " ++ word_text (y ∷ []) ++ codes " / " ++ word_text (z ∷ []))
-letter_text-pieces x y z old o1 o2 o3 o4 o5 o6 o7 a b c d e f g =
-    let all : o7 ≡ ((((((old ++ codes "differ at ") ++ letter_digit x ∷ []) ++ codes ": ") ++ letter_digit y ∷ []) ++ codes " / ") ++ letter_digit z ∷ []) ++ 10 ∷ [] = rw (g, f, e, d, c, b, a) refl in
-    all ∙ simp append_assoc
+-- the text of a word that is not empty
+pub word_text-some : (w : List ℕ) → 0 < length w → word_text w ≡ map letter_digit w
+word_text-some [] some = absurd (omega (arith, some))
+word_text-some (x ∷ w) some = refl
 
 -- what an answer says where there is one
 pub on_ok : {T E : Type 0} {A B : Type 0} (r : Result T E) → (A → B) → OnOk r A → OnOk r B

@@ -12,3 +12,6 @@ pub mod NucleusLaws
 pub mod OrderLaws
 pub mod RowTextLaws
 pub mod TestLaws
+pub mod DifferenceLaws
+pub mod ReadLaws
+pub mod ImageLaws

@@ -1,8 +1,8 @@
 -- The texts of rows and machines, piece by piece.
-use Rattle.std.proofs.Common.{ℕ, suc, ◌≡◌, ◌+◌, ◌<◌, ◌≤◌, List, [], ◌∷◌, ◌++◌, length, take, map, get_or, refl, sym, ◌∙◌, ap, subst, arith, append_assoc}
+use Rattle.std.proofs.Common.{ℕ, suc, ◌≡◌, ◌+◌, ◌<◌, ◌≤◌, List, [], ◌∷◌, ◌++◌, ◌-◌, length, take, drop, map, set, get_or, refl, sym, ◌∙◌, ap, subst, arith, append_assoc}
 use Rattle.std.specs.Prelude.{codes}
 use Rattle.std.specs.Fmt.{decimal}
-use Rattle.std.proofs.lemmas.List.{append-nil, length-map, length-take-le, get_or-map, get_or-take, take_all, take_more}
+use Rattle.std.proofs.lemmas.List.{append-nil, drop-set, drop_more, drop_all, length-map, length-take-le, get_or-map, get_or-take, take_all, take_more}
 use Rattle.fr_alphabet.specs.Cycles.{cycles_text}
 use Rattle.fr_model.specs.Automata.{State}
 use Rattle.fr_machine.specs.Machine.{MachineView}
@@ -27,12 +27,38 @@ module _ (n : ℕ) (r : Row) (h : IsRow (length r.perm) n r) (few : length r.per
       let inside : x < length (state_of r).next = omega (arith, l, length-take-le (length r.perm) r.next (omega (arith, few, h.width))) in
       omega (arith, get_or-map suc (state_of r).next x 0 0 inside, get_or-take (length r.perm) r.next x 0 l)
 
+-- the last of some numbers, before the bracket that closes them
+pub numbers-last : (ns text text' : List ℕ) (x n at start : ℕ) → x < length ns → length ns ≤ x + 1 → n ≡ get_or ns x 0 → drop at text ≡ numbers_text (drop (x + 1) ns) ++ 62 ∷ [] → drop start text' ≡ decimal n ++ drop at text → drop start text' ≡ numbers_text (drop x ns) ++ 62 ∷ []
+numbers-last ns text text' x n at start l g e h d =
+    let none : drop (x + 1) ns ≡ [] = drop_all (x + 1) ns g in
+    let one : drop x ns ≡ n ∷ [] = drop_more ns x 0 l ∙ ap (λ m. m ∷ drop (x + 1) ns) (sym e) ∙ ap (λ t. n ∷ t) none in
+    d ∙ ap (λ t. decimal n ++ t) (h ∙ ap (λ t. numbers_text t ++ 62 ∷ []) none) ∙ ap (λ t. numbers_text t ++ 62 ∷ []) (sym one)
+
+-- one that stands before others, with a comma behind it
+pub numbers-before : (ns text text1 text' : List ℕ) (x n at start : ℕ) → x + 1 < length ns → n ≡ get_or ns x 0 → 1 ≤ at → at ≤ length text → drop at text ≡ numbers_text (drop (x + 1) ns) ++ 62 ∷ [] → text1 ≡ set text (at - 1) 44 → drop start text' ≡ decimal n ++ drop (at - 1) text1 → drop start text' ≡ numbers_text (drop x ns) ++ 62 ∷ []
+numbers-before ns text text1 text' x n at start l e least most h s d =
+    let one : at - 1 + 1 ≡ at = omega (arith, least) in
+    let comma : drop (at - 1) text1 ≡ 44 ∷ numbers_text (drop (x + 1) ns) ++ 62 ∷ [] = ap (drop (at - 1)) s ∙ drop-set text (at - 1) 44 (omega (arith, least, most)) ∙ ap (λ i. 44 ∷ drop i text) one ∙ ap (λ t. 44 ∷ t) h in
+    let rest = drop_more ns (x + 1) 0 l in
+    let own : drop x ns ≡ n ∷ drop (x + 1) ns = drop_more ns x 0 (omega (arith, l)) ∙ ap (λ m. m ∷ drop (x + 1) ns) (sym e) in
+    d ∙ ap (λ t. decimal n ++ t) comma ∙ joined (drop (x + 1) ns) _ _ rest ∙ ap (λ t. numbers_text t ++ 62 ∷ []) (sym own)
+  where
+    joined : (ms : List ℕ) (m : ℕ) (more : List ℕ) → ms ≡ m ∷ more → decimal n ++ (44 ∷ numbers_text ms ++ 62 ∷ []) ≡ numbers_text (n ∷ ms) ++ 62 ∷ []
+    joined ms m more f =
+        let P : List ℕ → Type 0 = λ ks. decimal n ++ (44 ∷ numbers_text ks ++ 62 ∷ []) ≡ numbers_text (n ∷ ks) ++ 62 ∷ [] in
+        subst P (sym f) (sym (append_assoc (decimal n) (44 ∷ numbers_text (m ∷ more)) (62 ∷ [])))
+
+-- the numbers with the bracket that opens them
+pub opened : (ns text : List ℕ) (at : ℕ) → 1 ≤ at → at ≤ length text → drop at text ≡ numbers_text ns ++ 62 ∷ [] → drop (at - 1) (set text (at - 1) 60) ≡ 60 ∷ numbers_text ns ++ 62 ∷ []
+opened ns text at least most h =
+    let one : at - 1 + 1 ≡ at = omega (arith, least) in
+    drop-set text (at - 1) 60 (omega (arith, least, most)) ∙ ap (λ i. 60 ∷ drop i text) one ∙ ap (λ t. 60 ∷ t) h
+
 -- the pieces of a row
-pub wreath_text-pieces : (r : Row) (old o1 o2 o3 o4 : List ℕ) (x : ℕ) → length (numbers_of r) ≤ x → o1 ≡ old ++ 60 ∷ [] → o2 ≡ o1 ++ numbers_text (take x (numbers_of r)) → o3 ≡ o2 ++ 62 ∷ [] → o4 ≡ o3 ++ cycles_text r.perm
-    → o4 ≡ old ++ wreath_text (state_of r)
+pub wreath_text-pieces : (r : Row) (old o1 o2 : List ℕ) → o1 ≡ old ++ 60 ∷ numbers_text (numbers_of r) ++ 62 ∷ [] → o2 ≡ o1 ++ cycles_text r.perm → o2 ≡ old ++ wreath_text (state_of r)
 unfolding wreath_text
-wreath_text-pieces r old o1 o2 o3 o4 x l a b c d =
-    let all : o4 ≡ (((old ++ 60 ∷ []) ++ numbers_text (numbers_of r)) ++ 62 ∷ []) ++ cycles_text r.perm = rw (d, c, b, a, take_all x (numbers_of r) l) refl in
+wreath_text-pieces r old o1 o2 a b =
+    let all : o2 ≡ (old ++ 60 ∷ numbers_text (numbers_of r) ++ 62 ∷ []) ++ cycles_text r.perm = rw (b, a) refl in
     all ∙ simp append_assoc
 
 -- one row more of a machine

@@ -6,3 +6,5 @@ pub mod Entering
 pub mod Concluding
 pub mod Orders
 pub mod Generators
+pub mod Differences
+pub mod Transitions

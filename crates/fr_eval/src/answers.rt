@@ -14,11 +14,12 @@ ghost use Rattle.fr_eval.specs.Bindings.{AreAllKnown};
 ghost use Rattle.fr_eval.specs.Telling.{Answers};
 ghost use Rattle.fr_eval.specs.Concluding.{Answered, IsOfMore, EvaluatesAll};
 
+use crate::differences::compare;
 use crate::ends::{LineEnd, Stop};
 use crate::finish::{append, end_with};
 use crate::nucleus::nucleus_of;
 use crate::order::order;
-use crate::texts::{compare, growth, image, ray_image, show, states, wreath};
+use crate::texts::{growth, image, ray_image, show, states, wreath};
 use fr_expr::{Env, EvalFault, eval};
 use fr_store::{Handle, Store};
 use fr_syntax::{Expr, Statement};
@@ -101,7 +102,7 @@ fn answer<S: Store>(
         }
         Statement::Act(e, w) => {
             let h = eval(alloc, store, env, line, e, charge)?;
-            image(alloc, store, h, w, out)?;
+            image(store, h, w, out)?;
         }
         _ => return answer_more(alloc, store, env, line, statement, out, charge),
     }

@@ -4,9 +4,11 @@
 mod answers;
 mod block;
 mod definitions;
+mod differences;
 mod ends;
 mod entering;
 mod finish;
+mod images;
 mod names;
 mod nucleus;
 mod order;
@@ -14,6 +16,7 @@ mod rows;
 #[cfg(test)]
 mod tests;
 mod texts;
+mod transitions;
 
 pub use answers::ask;
 pub use definitions::define;

@@ -1,12 +1,13 @@
 //! The texts of machines, and of their rows.
 
-ghost use Rattle.std.specs.Prelude.{◌≡◌, ◌++◌, ◌∷◌, [], ℕ, ◌≤◌, OnOk, length};
+ghost use Rattle.std.specs.Prelude.{◌≡◌, ◌++◌, ◌∷◌, [], ℕ, suc, ◌≤◌, OnOk, length, map};
 ghost use Rattle.std.specs.Fmt.{decimal};
 ghost use Rattle.fr_machine.specs.Rows.{IsRow, state_of, states_of};
-ghost use Rattle.fr_canon.specs.Texts.{wreath_text, machine_text};
+ghost use Rattle.fr_canon.specs.Texts.{numbers_text, wreath_text, machine_text};
 
 use fr_alphabet::NoMemory;
 use fr_machine::{Minimal, Row};
+use itoa::write_digits;
 
 /// Appends a number in decimal. Where memory runs out, a part of it may stand there.
 pub fn push_number(n: u64, out: &mut Vec<u8>) -> Result<(), NoMemory>
@@ -16,20 +17,41 @@ pub fn push_number(n: u64, out: &mut Vec<u8>) -> Result<(), NoMemory>
     Ok(())
 }
 
+// The most bytes that the next rows of a row take in brackets: eight numbers of at most four digits with a byte before each,
+// and the brackets.
+const WIDTH: usize = 42;
+
+// Appends the next rows of a row, counted from 1, in brackets. They are written from the last one to the first, so that the
+// text is copied once.
+fn push_nexts(row: &Row, out: &mut Vec<u8>) -> Result<(), NoMemory>
+    requires { (n : ℕ) × (n ≤ 1024) × IsRow (length row.now.perm) n row.now }
+    ensures { OnOk result (out.new.items ≡ out.old.items ++ 60 ∷ numbers_text (map suc (state_of row.now).next) ++ 62 ∷ []) }
+{
+    let letters = row.perm.letters() as usize;
+    let mut text = [b'>'; WIDTH];
+    let mut at = WIDTH - 1;
+    let mut x = letters;
+    while x > 0 {
+        if x < letters {
+            at -= 1;
+            text[at] = b',';
+        }
+        x -= 1;
+        at = write_digits(row.next[x] as u64 + 1, &mut text, at);
+    }
+    at -= 1;
+    text[at] = b'<';
+    out.extend_from_slice(&text[at..])?;
+    Ok(())
+}
+
 /// Appends a row as `<2,3>(1,2)`: its next rows, counted from 1, and the cycles of its permutation. Where memory runs out, a
 /// part of it may stand there.
 pub fn push_wreath(row: &Row, out: &mut Vec<u8>) -> Result<(), NoMemory>
     requires { (n : ℕ) × (n ≤ 1024) × IsRow (length row.now.perm) n row.now }
     ensures { OnOk result (out.new.items ≡ out.old.items ++ wreath_text (state_of row.now)) }
 {
-    out.push(b'<')?;
-    for x in 0..row.perm.letters() {
-        if x > 0 {
-            out.push(b',')?;
-        }
-        push_number(row.next[x as usize] as u64 + 1, out)?;
-    }
-    out.push(b'>')?;
+    push_nexts(row, out)?;
     row.perm.print_cycles(out)?;
     Ok(())
 }

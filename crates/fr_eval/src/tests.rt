@@ -103,6 +103,39 @@ fn a_line_is_answered(rt: HostRuntime) -> Result<(), Fail> {
     Ok(())
 }
 
+// By the handle, by a letter, by two letters, and by their machines.
+#[test]
+fn elements_are_told_apart(rt: HostRuntime) -> Result<(), Fail> {
+    let cases: [(&[u8], &[u8]); 5] = [
+        (
+            b"group\na = <1,1>(1,2)\nb = <a,c>\nc = <a,d>\nd = <1,b>\nend\neq b*c*d 1\n",
+            b"equal\n",
+        ),
+        (
+            b"group\nt = <1,t>(1,2)\nend\neq 1 t\n",
+            b"differ at 1: 1 / 2\n",
+        ),
+        (
+            b"group\nt = <1,t>(1,2)\nend\neq t^-1 t\n",
+            b"differ at 11: 22 / 21\n",
+        ),
+        (
+            b"group\na = <1,1>(1,2)\nb = <a,c>\nc = <a,d>\nd = <1,b>\nend\neq a*b b*a\n",
+            b"differ at 11: 21 / 22\n",
+        ),
+        (
+            b"group\na = <1,1>(1,2)\nb = <a,c>\nc = <a,d>\nd = <1,b>\nend\neq b c\n",
+            b"differ at 211: 212 / 211\n",
+        ),
+    ];
+    for (script, expected) in cases {
+        let script = read_script(rt.alloc(), script)?;
+        let text = texts_of_two(rt.alloc(), &script, 64);
+        assert_eq!(rt; text.ok().expect(&rt, "a text").as_slice(), expected);
+    }
+    Ok(())
+}
+
 #[test]
 fn a_fault_is_told_at_its_line(rt: HostRuntime) -> Result<(), Fail> {
     let script = read_script(rt.alloc(), b"group\nt = <1,t>(1,2)\nend\nstates u\n")?;

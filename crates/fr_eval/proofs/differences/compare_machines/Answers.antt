@@ -6,8 +6,8 @@ use Rattle.fr_store.proofs.StoreLaws.{Keeps-same}
 use Rattle.fr_expr.proofs.EvaluationLaws.{carries}
 use Rattle.fr_plain.specs.Answers.{comparison_text, line_of}
 use Rattle.fr_eval.proofs.AnswerLaws.{comparison_text-alike}
-use Rattle.fr_eval.proofs.texts.compare_machines.Goals as goal
-use Rattle.fr_eval.proofs.texts.compare_machines.Goals.{in-None+in_ok-extend_from_slice-in-None, in-Some+in_ok-push_difference-in-Some}
+use Rattle.fr_eval.proofs.differences.compare_machines.Goals as goal
+use Rattle.fr_eval.proofs.differences.compare_machines.Goals.{in-None+in_ok-extend_from_slice-in-None, in-Some+in_ok-push_difference_of_machines-in-Some}
 
 pub returns-clause-text : goal.returns-clause-text
 returns-clause-text g c = λ t u s r.
@@ -25,9 +25,9 @@ returns-clause-text g c = λ t u s r.
     elim c.match-branch-4.branch [
       | in-None+in_ok-extend_from_slice-in-None w ↦
           (line_of (comparison_text t u None), record { found = None; separates = subst (IsSeparation d t u) w.in-None.is separates; ends = refl }, ap (λ o. o.items) w.out-is ∙ w.in_ok-extend_from_slice-in-None.ensures.items)
-      | in-Some+in_ok-push_difference-in-Some w ↦ (
+      | in-Some+in_ok-push_difference_of_machines-in-Some w ↦ (
         line_of (comparison_text t u (Some w.in-Some.w)),
         record { found = Some w.in-Some.w; separates = subst (IsSeparation d t u) w.in-Some.is separates; ends = refl },
-        ap (λ o. o.items) w.out-is ∙ w.in_ok-push_difference-in-Some.ensures ∙ ap (λ x. c.args.out.now.items ++ line_of x) (comparison_text-alike (row_term m.rows 0) t (row_term n.rows 0) u w.in-Some.w left right),
+        ap (λ o. o.items) w.out-is ∙ w.in_ok-push_difference_of_machines-in-Some.ensures ∙ ap (λ x. c.args.out.now.items ++ line_of x) (comparison_text-alike (row_term m.rows 0) t (row_term n.rows 0) u w.in-Some.w left right),
       )
     ]
