@@ -107,7 +107,7 @@ IsRowPassed-from d s ws vs us fs next x w h l e p = λ first count a all.
     by first count word (h.stay first count a all) p
   where
     by : (first count : ℕ) → IsWordOf d s first count w → All (IsWordOf d s first count) vs → IsPassed vs us w → AreClosuresPassed d s first count
-    by first count word all (inl long) = inr (w, word, long)
+    by first count word all (inl long) = inr (w, word, long.0)
     by first count word all (inr many) = inl (record {
       members = us;
       more = many.1;
@@ -138,7 +138,7 @@ names_pushed first k ws w h e = record {
 }
 
 pub names_more : (first k : ℕ) (ws ws' : List (List Factor)) (w : List Factor) (o : Option ℕ) → AreNameWords first k ws → k < 8192 → w ≡ one_name (first + k) → MatchOption o (IsPassed ws ws' w) (λ n. IsNumbered ws ws' w n) → AreNameWords first (k + 1) ws'
-names_more first k ws ws' w None h l e (inl long) = absurd (omega (arith, long, ap length e))
+names_more first k ws ws' w None h l e (inl long) = absurd (omega (arith, long.0, ap length e))
 names_more first k ws ws' w None h l e (inr many) = absurd (omega (arith, many.1, ap length many.0, length_push ws w, h.size, l))
 names_more first k ws ws' w (Some n) h l e m = by m.keeps
   where

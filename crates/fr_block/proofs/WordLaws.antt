@@ -1,9 +1,10 @@
 -- Words that are numbered: no two numbers have one word, and words that come keep the numbers of others.
 use Rattle.std.proofs.Common.{ℕ, ◌≡◌, ◌<◌, ◌≤◌, ◌⊎◌, inl, inr, Bool, true, false, List, [], ◌∷◌, ◌++◌, length, map, get_or, slice_get, Some, refl, sym, subst, ◌∙◌, ap, arith, true≢false, if◌then◌else◌, eqb, ◌&&◌}
-use Rattle.std.specs.List.{IsDistinct, list_any}
+use Rattle.std.specs.List.{IsDistinct, list_any, position}
 use Rattle.std.specs.Cmp.Lexicographic.{pointwise}
 use Rattle.std.proofs.lemmas.List.{length-map, get_or-map, map_push}
 use Rattle.std.proofs.lemmas.Option.{get_or_from_slice_get}
+use Rattle.std.proofs.lemmas.List.Quantifiers.{position-Some}
 use Rattle.std.proofs.lemmas.Map.Keys.{apart_from_distinct}
 use Rattle.std.proofs.lemmas.Bool.{cases_Bool, cases_lt, and_parts, eqb-true, eq-eqb}
 use mathlib.Core.Bool.{beq}
@@ -85,6 +86,24 @@ module _ (e : Member → Member → Bool) (same : (m : Member) → e m m ≡ tru
         | inr f ↦ omega (arith, c, f)
       ]
     ]
+
+    -- a word that is looked up
+    found_at : (ks : List K) (ms : List Member) (n : ℕ) → position (λ k. pointwise e ms (items k)) ks ≡ Some n → (n < length ks) × (get_or (map word ks) n [] ≡ product_of ms)
+    found_at [] ms n f = cc
+    found_at (d ∷ ks) ms n f =
+        let p = position-Some (λ k. pointwise e ms (items k)) (d ∷ ks) n d f in
+        (p.0, get_or-map word (d ∷ ks) n d [] p.0 ∙ ap product_of (sym (pointwise_exact ms (items (get_or (d ∷ ks) n d)) p.1)))
+
+    pub word_found : (ks : List K) (ws : List (List Factor)) (ms : List Member) (n : ℕ) → map word ks ≡ ws → position (λ k. pointwise e ms (items k)) ks ≡ Some n → length ws ≤ 8192 → length ms ≤ 4096 → IsNumbered ws ws (product_of ms) n
+    word_found ks ws ms n is f few short =
+        let p = found_at ks ms n f in
+        record {
+          below = omega (arith, p.0, length-map ks word, ap length is);
+          is = subst (λ us. get_or us n [] ≡ product_of ms) is p.1;
+          keeps = inl refl;
+          few = few;
+          short = rw (length-map ms factor_of) short;
+        }
 
     -- the word at the number that was given
     pub stored_word : (ks : List K) (n : ℕ) (k v : K) → n < length ks → slice_get ks n ≡ Some k → equal v k ≡ true → get_or (map word ks) n [] ≡ word v

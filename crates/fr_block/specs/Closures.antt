@@ -32,9 +32,9 @@ pub record IsNumbered (words words' : List (List Factor)) (w : List Factor) (n :
   pub few : length words' ≤ 8192
   pub short : length w ≤ 4096
 
--- the word has too many members, or is one too many
+-- the word has too many members and is not taken, or is one too many
 abbrev pub IsPassed : List (List Factor) → List (List Factor) → List Factor → Type 0
-IsPassed words words' w = (4096 < length w) ⊎ ((words' ≡ words ++ w ∷ []) × (8192 < length words') × AreApart words')
+IsPassed words words' w = ((4096 < length w) × (words' ≡ words)) ⊎ ((words' ≡ words ++ w ∷ []) × (8192 < length words') × AreApart words')
 
 -- words that were met stay in their places
 abbrev pub Extends : List (List Factor) → List (List Factor) → Type 0

@@ -1,9 +1,9 @@
 //! Blocks of wreath recursions.
 
-ghost use Rattle.std.specs.Prelude.{◌≡◌, ◌<◌, ◌≤◌, ◌↔◌, ℕ, IsSome, IfSome, IsTrue, length, not};
+ghost use Rattle.std.specs.Prelude.{◌≡◌, ◌<◌, ◌≤◌, ◌↔◌, IsSome, IfSome, IsTrue, length, not};
 ghost use Rattle.std.specs.List.{All};
 ghost use Rattle.fr_model.specs.Words.{IsLetter};
-ghost use Rattle.fr_model.specs.Permutations.{IsPermutation, image, preimage};
+ghost use Rattle.fr_model.specs.Permutations.{preimage};
 ghost use Rattle.fr_model.specs.Systems.{wreath_at, section_at, factor_output};
 ghost use Rattle.fr_model.specs.FreeWords.{cancel};
 ghost use Rattle.fr_block.specs.Blocks.{factor_of, product_of, system_of, IsBlock, IsRecursion, AreNames};
@@ -128,16 +128,6 @@ impl Block {
         ensures most { result ≤ 4095 }
     {
         self.wreaths.len() as u16
-    }
-
-    /// The permutation of a name or of its inverse.
-    pub fn perm(&self, f: Factor) -> Perm
-        requires { f.name < length self.now.system }
-        ensures permutes { IsPermutation self.now.alphabet result }
-        ensures value { (x : ℕ) → image result x ≡ factor_output self.now.system (factor_of f) x }
-    {
-        let perm = self.wreaths[f.name as usize].perm;
-        if f.inverse { perm.inverse() } else { perm }
     }
 
     /// The letter that a name or its inverse puts out for a letter.

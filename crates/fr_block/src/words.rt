@@ -80,6 +80,9 @@ impl Words {
         if word.len() > MEMBER_LIMIT {
             return Ok(None);
         }
+        if let Some(number) = self.set.get_index_of(word) {
+            return Ok(Some(number as u16));
+        }
         let (number, _) = self.set.insert_full(Vec::from_slice(alloc, word)?)?;
         if self.set.len() > WORD_LIMIT {
             return Ok(None);

@@ -1,4 +1,4 @@
-use Rattle.std.proofs.Common.{subst, sym, ap, ◌∙◌, length, arith}
+use Rattle.std.proofs.Common.{subst, sym, ap, ◌∙◌, arith}
 use Rattle.fr_model.specs.Permutations.{image, IsPermutation}
 use Rattle.fr_model.proofs.PermutationLaws.{IsPermutation-inverse, image-inverse}
 use Rattle.fr_block.proofs.block.image_back.Goals as goal

@@ -1,7 +1,6 @@
-use Rattle.std.proofs.Common.{subst, sym, ap, ◌∙◌, arith}
-use Rattle.fr_model.specs.Permutations.{image, preimage, IsPermutation}
+use Rattle.std.proofs.Common.{sym, ap, ◌∙◌, arith}
+use Rattle.fr_model.specs.Permutations.{image, preimage}
 use Rattle.fr_model.specs.Systems.{Wreath}
-use Rattle.fr_model.proofs.PermutationLaws.{IsPermutation-inverse, image-inverse}
 use Rattle.fr_block.proofs.BlockLaws.{recursion_here}
 use Rattle.fr_block.proofs.block.Block.image.Goals as goal
 
