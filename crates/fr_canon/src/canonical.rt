@@ -158,7 +158,7 @@ fn list_rows(
     ensures minimal { IfOk result (λ found. IsMinimal a found.items) }
 {
     begin(walk, s);
-    let mut found = Vec::new(alloc);
+    let mut found = Vec::with_capacity(alloc, rows.len())?;
     let mut done = 0;
     while done < walk.count() {
         let key = walk.key(done);

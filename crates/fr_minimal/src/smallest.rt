@@ -12,8 +12,11 @@ ghost use Rattle.fr_minimal.specs.Smallest.{IsSmallest, IsChoice, chosen_of, cho
 use crate::reached::reached;
 use fr_alphabet::NoMemory;
 use fr_machine::{Machine, Minimal, Row, STATE_LIMIT, Walk, classes_within};
-use std::alloc::{AllocFailed, Global};
+use std::alloc::{AllocError, AllocFailed, Global};
 use thiserror::Error;
+
+// For how many rows room is taken at first, so that small machines take it once.
+const FIRST_ROOM: usize = 64;
 
 /// Why there is no minimal machine.
 #[derive(Clone, Copy, Debug, PartialEq, Eq, Error)]
@@ -33,6 +36,17 @@ impl<T: Drop> From<AllocFailed<T>> for MinFault {
     ghost from_gives = { λ _ e. e ≡ NoMemory };
 
     fn from(_failed: AllocFailed<T>) -> MinFault {
+        MinFault::NoMemory
+    }
+}
+
+impl From<AllocError> for MinFault {
+    ghost use Rattle.std.specs.Prelude.{◌≡◌};
+    ghost use Rattle.fr_minimal.specs.declared.smallest.MinFault.TheVariants.{NoMemory};
+
+    ghost from_gives = { λ _ e. e ≡ NoMemory };
+
+    fn from(_failed: AllocError) -> MinFault {
         MinFault::NoMemory
     }
 }
@@ -85,7 +99,7 @@ pub fn minimize_with(alloc: Global, m: &Machine, of: &[u16], s: u16) -> Result<M
     let count = m.rows().len();
     let chosen = choice(alloc, of)?;
     let mut walk = walk_from(alloc, count, chosen[of[s as usize] as usize] as u32)?;
-    let mut rows = Vec::new(alloc);
+    let mut rows = Vec::with_capacity(alloc, count.min(FIRST_ROOM))?;
     while rows.len() < walk.keys().len() {
         let key = walk.keys()[rows.len()] as u16;
         let row = row_of(m, of, &chosen, &mut walk, key)?;

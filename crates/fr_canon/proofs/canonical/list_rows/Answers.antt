@@ -8,7 +8,7 @@ use Rattle.fr_canon.proofs.canonical.list_rows.Goals as goal
 pub loop-done-init : goal.loop-done-init
 loop-done-init c =
     let m = c.args.rows.now in
-    AreRowsListed-start c.args.a (length m) (next_state (states_of m)) (row_output (states_of m)) c.args.s c.begin.new.walk.keys c.new-found.result.items c.requires.row c.begin.ensures c.new-found.ensures.items
+    AreRowsListed-start c.args.a (length m) (next_state (states_of m)) (row_output (states_of m)) c.args.s c.begin.new.walk.keys c.in_ok-found.found.items c.requires.row c.begin.ensures c.in_ok-found.ensures.items
 
 pub loop-done-preserved : goal.loop-done-preserved
 loop-done-preserved c =

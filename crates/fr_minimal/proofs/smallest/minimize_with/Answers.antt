@@ -23,7 +23,7 @@ loop-walk-init c =
     let chosen = c.in_ok-chosen.chosen.items in
     let e = chosen_read of chosen c.args.s c.index.result.now c.in_ok-chosen.ensures (omega (arith, c.requires.row, c.requires.classes.count)) c.index.ensures in
     record {
-      built = IsBuilt-start c.args.m.now.alphabet (length m) (chosen_step (states_of m) of chosen) (chosen_output (states_of m)) (chosen_of of chosen c.args.s) c.in_ok-walk.walk.keys c.new-rows.result.items (c.in_ok-walk.ensures.keys ∙ ap (λ k. k ∷ []) e) c.new-rows.ensures.items;
+      built = IsBuilt-start c.args.m.now.alphabet (length m) (chosen_step (states_of m) of chosen) (chosen_output (states_of m)) (chosen_of of chosen c.args.s) c.in_ok-walk.walk.keys c.in_ok-rows.rows.items (c.in_ok-walk.ensures.keys ∙ ap (λ k. k ∷ []) e) c.in_ok-rows.ensures.items;
       bound = c.in_ok-walk.ensures.bound ∙ ap length c.rows-count.ensures.value;
       few = omega (arith, ap length c.in_ok-walk.ensures.keys);
     }
