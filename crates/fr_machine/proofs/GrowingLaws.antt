@@ -107,8 +107,8 @@ AreLevelsTo-more d rows m first k hs0 hs hs' h g =
     }
 
 -- all letters
-pub AreLevels-grown : (d : ℕ) (old rows : List Row) → IsMachine d rows → (hs0 hs : List (List ℕ)) → AreLevels old hs0 → IsLonger old rows → AreLevelsTo rows (length hs0) 24 hs0 hs → AreLevels rows hs
-AreLevels-grown d old rows m hs0 hs h w g = record {
+pub AreLevels-grown : (d : ℕ) (old rows : List Row) → IsMachine d rows → (depth : ℕ) (hs0 hs : List (List ℕ)) → AreLevels old hs0 depth → IsLonger old rows → AreLevelsTo rows (length hs0) depth hs0 hs → AreLevels rows hs depth
+AreLevels-grown d old rows m depth hs0 hs h w g = record {
   closed = λ s x a b. next_below d rows m s x a (omega (arith, (row_is_at d rows m s a).permutes.degree));
   count = g.count;
   wide = g.wide;
@@ -130,9 +130,28 @@ AreLevels-grown d old rows m hs0 hs h w g = record {
   ];
 }
 
+-- the same rows with hashes for more letters
+pub AreLevelsTo-same : (rows : List Row) (depth : ℕ) (hs : List (List ℕ)) → AreLevels rows hs depth → AreLevelsTo rows 0 depth hs hs
+AreLevelsTo-same rows depth hs h = record {
+  count = h.count;
+  wide = h.wide;
+  old = λ s j l. refl;
+  zeros = λ s a b. h.zeros s b;
+  each = λ j s l a b. h.each j s l b;
+}
+
+pub AreLevels-deepened : (d : ℕ) (rows : List Row) → IsMachine d rows → (depth : ℕ) (hs0 hs : List (List ℕ)) → AreLevelsTo rows 0 depth hs0 hs → AreLevels rows hs depth
+AreLevels-deepened d rows m depth hs0 hs g = record {
+  closed = λ s x a b. next_below d rows m s x a (omega (arith, (row_is_at d rows m s a).permutes.degree));
+  count = g.count;
+  wide = g.wide;
+  zeros = λ s l. g.zeros s (omega arith) l;
+  each = λ k s b l. g.each k s b (omega arith) l;
+}
+
 -- rows that act alike have one hash
-module _ (d : ℕ) (rows : List Row) (m : IsMachine d rows) (hs : List (List ℕ)) (h : AreLevels rows hs) where
-  pub AreInvariant-level : (k : ℕ) → k ≤ 24 → AreInvariant rows (level hs k)
+module _ (d : ℕ) (rows : List Row) (m : IsMachine d rows) (hs : List (List ℕ)) (depth : ℕ) (h : AreLevels rows hs depth) where
+  pub AreInvariant-level : (k : ℕ) → k ≤ depth → AreInvariant rows (level hs k)
   AreInvariant-level zero l = λ s t a b e. level-at hs 0 s (omega (arith, h.count)) ∙ h.zeros s a ∙ sym (level-at hs 0 t (omega (arith, h.count)) ∙ h.zeros t b)
   AreInvariant-level (suc k) l =
       let e : k + 1 ≡ suc k = omega arith in
@@ -146,14 +165,14 @@ module _ (d : ℕ) (rows : List Row) (m : IsMachine d rows) (g : GrowingClasses)
   pub IsGuess-growing : IsGuess rows g.of.items (length g.walk.keys.items)
   IsGuess-growing =
       let hs = g.hashes.items in
-      let size : length rows ≡ length (level hs 24) = sym (length-level hs 24 ∙ h.levels.count) in
-      let n = IsNumberingOfKeys-met (level hs 24) g.of.items g.walk (length rows) h.sparse h.met size in
+      let size : length rows ≡ length (level hs g.depth) = sym (length-level hs g.depth ∙ h.levels.count) in
+      let n = IsNumberingOfKeys-met (level hs g.depth) g.of.items g.walk (length rows) h.sparse h.met size in
       record {
         size = h.met.size;
         first = h.met.first;
         below = n.below;
         used = n.used;
-        alike = λ s t a b e. (n.numbering.same s t 0 (omega (arith, size)) (omega (arith, size))).1 (AreInvariant-level d rows m hs h.levels 24 (omega arith) s t a b e);
+        alike = λ s t a b e. (n.numbering.same s t 0 (omega (arith, size)) (omega (arith, size))).1 (AreInvariant-level d rows m hs g.depth h.levels g.depth (omega arith) s t a b e);
       }
 
   pub IsStable-growing : g.stable ≡ true → IsStable rows g.of.items

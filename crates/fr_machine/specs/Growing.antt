@@ -28,13 +28,13 @@ pub record IsHashed (rows : List Row) (first k last : ℕ) (hs hs' : List (List 
   pub others : (s j : ℕ) → (s < first) ⊎ (last ≤ s) ⊎ (j ≢ k + 1) → hash_at hs' s j ≡ hash_at hs s j
   pub new : (s : ℕ) → first ≤ s → s < last → hash_at hs' s (k + 1) ≡ hash_of (row_at rows s) (level hs k) (length (row_at rows s).perm)
 
--- the hashes of rows whose next rows are among them, for words of at most 0 to 24 letters
-pub record AreLevels (rows : List Row) (hs : List (List ℕ)) : Type 0 where
+-- the hashes of rows whose next rows are among them, for words of at most 0 to so many letters
+pub record AreLevels (rows : List Row) (hs : List (List ℕ)) (depth : ℕ) : Type 0 where
   pub closed : (s x : ℕ) → s < length rows → x < length (row_at rows s).perm → slice_index (row_at rows s).next x < length rows
   pub count : length hs ≡ length rows
   pub wide : All (λ h. length h ≡ 25) hs
   pub zeros : (s : ℕ) → s < length rows → hash_at hs s 0 ≡ 0
-  pub each : (k s : ℕ) → k < 24 → s < length rows → hash_at hs s (k + 1) ≡ hash_of (row_at rows s) (level hs k) (length (row_at rows s).perm)
+  pub each : (k s : ℕ) → k < depth → s < length rows → hash_at hs s (k + 1) ≡ hash_of (row_at rows s) (level hs k) (length (row_at rows s).perm)
 
 -- the first entries are these
 pub record AreListed (old xs : List (List ℕ)) : Type 0 where
@@ -47,7 +47,8 @@ IsSigned rows of known s = (slice_index of s < length known) × (slice_index_or 
 
 -- the classes of these rows
 pub record IsGrowing (rows : List Row) (g : GrowingClasses) : Type 0 where
-  pub levels : AreLevels rows g.hashes.items
+  pub deep : g.depth ≤ 24
+  pub levels : AreLevels rows g.hashes.items g.depth
   pub sparse : IsSparse g.walk
-  pub met : AreMet (level g.hashes.items 24) g.of.items g.walk.keys.items (length rows)
+  pub met : AreMet (level g.hashes.items g.depth) g.of.items g.walk.keys.items (length rows)
   pub signed : g.stable ≡ true → (s : ℕ) → s < length rows → IsSigned rows g.of.items g.known.items s

@@ -37,10 +37,10 @@ pub fn classes(alloc: Global, m: &Machine) -> Result<Vec<u16>, NoMemory>
 {
     let rows = m.rows();
     let guess = guess(alloc, rows)?;
-    if is_stable(alloc, rows, &guess)? {
-        return Ok(guess.of);
+    if guess.is_stable(alloc, rows)? {
+        return Ok(guess.numbering.of);
     }
-    refined_classes(alloc, rows, guess)
+    refined_classes(alloc, rows, guess.numbering)
 }
 
 /// The class of each row, as [`classes`], from a guess. The only error is want of memory.
@@ -65,13 +65,13 @@ pub fn classes_within(
 {
     let rows = m.rows();
     let guess = guess(alloc, rows)?;
-    if guess.count > limit {
+    if guess.numbering.count > limit {
         return Ok(None);
     }
-    if is_stable(alloc, rows, &guess)? {
-        return Ok(Some(guess.of));
+    if guess.is_stable(alloc, rows)? {
+        return Ok(Some(guess.numbering.of));
     }
-    let partition = refined(alloc, rows, guess, limit)?;
+    let partition = refined(alloc, rows, guess.numbering, limit)?;
     if partition.known.len() > limit {
         return Ok(None);
     }
@@ -81,13 +81,63 @@ pub fn classes_within(
 // The most letters that are looked at for a guess.
 const GUESS_DEPTH: usize = 16;
 
-// The rows in classes by a hash of what they put out on short words, so that rows that act alike are in one class. Mostly
-// these are the classes already.
-fn guess(alloc: Global, rows: &[Row]) -> Result<Numbering, NoMemory>
+// The letters that tell the rows of most small machines.
+const SHORT_DEPTH: usize = 6;
+
+// The most rows of a machine that is small.
+const SMALL_COUNT: usize = 64;
+
+// Rows in classes, such that rows that act alike are in one class.
+#[derive(Drop)]
+struct Guessed {
+    // The classes.
+    numbering: Numbering,
+    // If set, rows of one class are known to have one signature.
+    known: bool,
+}
+
+impl Guessed {
+    // Whether rows of one class have one signature. If so, they act alike.
+    fn is_stable(&self, alloc: Global, rows: &[Row]) -> Result<bool, NoMemory>
+        requires machine { (d : ℕ) × IsMachine d rows.now }
+        requires guess { IsGuess rows.now self.now.numbering.of.items self.now.numbering.count }
+        requires known { self.now.known ≡ true → IsStable rows.now self.now.numbering.of.items }
+        ensures { IfOk result (λ b. b ≡ true → IsStable rows.now self.now.numbering.of.items) }
+    {
+        if self.known {
+            return Ok(true);
+        }
+        is_stable(alloc, rows, &self.numbering)
+    }
+}
+
+// The rows in classes by a hash of what they put out on short words. Mostly these are the classes already, and in small
+// machines often those by fewer letters.
+fn guess(alloc: Global, rows: &[Row]) -> Result<Guessed, NoMemory>
+    requires { (d : ℕ) × IsMachine d rows.now }
+    ensures guess { IfOk result (λ g. IsGuess rows.now g.numbering.of.items g.numbering.count) }
+    ensures known { IfOk result (λ g. g.known ≡ true → IsStable rows.now g.numbering.of.items) }
+{
+    if rows.len() > SHORT_DEPTH && rows.len() <= SMALL_COUNT {
+        let numbering = guess_by(alloc, rows, SHORT_DEPTH)?;
+        if is_stable(alloc, rows, &numbering)? {
+            return Ok(Guessed {
+                numbering,
+                known: true,
+            });
+        }
+    }
+    Ok(Guessed {
+        numbering: guess_by(alloc, rows, rows.len().min(GUESS_DEPTH))?,
+        known: false,
+    })
+}
+
+// The rows in classes by a hash of what they put out on words of at most so many letters.
+fn guess_by(alloc: Global, rows: &[Row], depth: usize) -> Result<Numbering, NoMemory>
     requires { (d : ℕ) × IsMachine d rows.now }
     ensures { IfOk result (λ g. IsGuess rows.now g.of.items g.count) }
 {
-    let depth = rows.len().min(GUESS_DEPTH);
     by_first_keys(alloc, &hashes(alloc, rows, depth)?)
 }
 

@@ -24,7 +24,7 @@ impl SparseWalk {
         ensures sparse { IfOk result IsSparse }
         ensures keys { IfOk result (λ w. w.keys.items ≡ []) }
     {
-        let buckets = if count < 256 { 64 } else { 4096 };
+        let buckets = buckets_for(count);
         Ok(SparseWalk {
             keys: Vec::new(alloc),
             earlier: Vec::new(alloc),
@@ -66,10 +66,30 @@ impl SparseWalk {
         Ok(number)
     }
 
+    /// Whether there are so many keys that more buckets would serve them better, which has to do with speed alone.
+    pub fn is_crowded(&self) -> bool {
+        self.keys.len() / 4 > self.latest.len() && self.latest.len() < MOST_BUCKETS
+    }
+
     /// How many keys were met.
     pub fn count(&self) -> usize
         ensures { result ≡ length self.now.keys.items }
     {
         self.keys.len()
+    }
+}
+
+// The most buckets of a walk.
+const MOST_BUCKETS: usize = 4096;
+
+// How many buckets serve about so many keys: chains stay short, and the table is soon made.
+fn buckets_for(count: usize) -> usize
+    ensures { 0 < result }
+{
+    match count {
+        0..=63 => 64,
+        64..=255 => 256,
+        256..=1023 => 1024,
+        _ => MOST_BUCKETS,
     }
 }

@@ -75,12 +75,33 @@ fn classes_grow(rt: HostRuntime) -> Result<(), Fail> {
     rows.push(row(swap, 1, 2))?;
     let m = Machine::new(a, rows).ok_or("rows")?;
     let mut growing = GrowingClasses::new(alloc)?;
-    growing.extend(&m)?;
+    growing.extend(alloc, &m)?;
     assert!(rt; growing.is_stable());
     assert_eq!(rt; growing.guess(&m), [0, 1, 0].as_slice());
     assert_eq!(rt;
         growing.classes(alloc, &m)?.as_slice(),
         [0, 1, 0].as_slice()
+    );
+    Ok(())
+}
+
+#[test]
+fn long_words_tell_rows_of_a_cycle(rt: HostRuntime) -> Result<(), Fail> {
+    let alloc = rt.alloc();
+    let a = Alphabet::new(2).ok_or("letters")?;
+    let swap = Perm::of_images(a, &[2, 1]).ok_or("images")?;
+    let mut rows = Vec::new(alloc);
+    for s in 1..12 {
+        rows.push(row(Perm::identity(a), s, s))?;
+    }
+    rows.push(row(swap, 0, 0))?;
+    let m = Machine::new(a, rows).ok_or("rows")?;
+    let mut growing = GrowingClasses::new(alloc)?;
+    growing.extend(alloc, &m)?;
+    assert!(rt; growing.is_stable());
+    assert_eq!(rt;
+        growing.guess(&m),
+        [0, 1, 2, 3, 4, 5, 6, 7, 8, 9, 10, 11].as_slice()
     );
     Ok(())
 }

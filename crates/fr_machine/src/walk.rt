@@ -1,11 +1,15 @@
 //! Walks that number keys in the order in which they meet them.
 
-ghost use Rattle.std.specs.Prelude.{◌≡◌, ◌<◌, ◌≤◌, [], IfOk, MatchOption, MatchResult, length};
+ghost use Rattle.std.specs.Prelude.{◌≡◌, ◌<◌, ◌≤◌, [], IfOk, MatchOption, MatchResult, length, slice_index};
+ghost use Rattle.std.specs.List.{Contains};
 ghost use Rattle.fr_machine.specs.Walks.{IsKeys, IsNumbered, IsPassed};
 
 use fr_alphabet::NoMemory;
 use std::alloc::Global;
 use std::marker::Model;
+
+// For how many keys room is taken at first, so that short walks take it once.
+const FIRST_ROOM: usize = 64;
 
 /// Keys below a bound, numbered from 0 in the order in which they are met, at most 65,536 of them. Numbers are found in
 /// constant time. This project's own, for breadth-first walks whose keys are rows or pairs of rows.
@@ -35,7 +39,7 @@ impl Walk {
     {
         Ok(Walk {
             index: vec![in alloc; 0u32; bound]?,
-            keys: Vec::new(alloc),
+            keys: Vec::with_capacity(alloc, bound.min(FIRST_ROOM))?,
         })
     }
 
@@ -67,6 +71,19 @@ impl Walk {
         self.index[key as usize] = number as u32 + 1;
         Ok(Some(number as u16))
     }
+
+    /// The number of a key below the bound, if it was met.
+    pub fn known(&self, key: u32) -> Option<u16>
+        requires { key < self.now.bound }
+        ensures { MatchOption result (¬ Contains self.now.keys key) (λ n. (n < length self.now.keys) × (slice_index self.now.keys n ≡ key)) }
+    {
+        let known = self.index[key as usize];
+        if known == 0 {
+            return None;
+        }
+        Some((known - 1) as u16)
+    }
+
     /// The number of a key below the bound, which it has from now on, where the bound is at most 65,536, so that each key
     /// has room. The only error is want of memory.
     pub fn number_of(&mut self, key: u32) -> Result<u16, NoMemory>

@@ -16,13 +16,13 @@ loop-k-preserved c =
 pub returns-clause-levels : goal.returns-clause-levels
 returns-clause-levels c =
     let hs0 = c.args.hashes.now.items in
-    let all : c.loop-k.k ≡ 24 = omega (arith, c.loop-k-test.false, c.loop-k.auto.k-end) in
-    let to : AreLevelsTo c.args.rows.now (length hs0) 24 hs0 c.loop-k.hashes.items = subst (λ k. AreLevelsTo c.args.rows.now (length hs0) k hs0 c.loop-k.hashes.items) all c.loop-k.invariant in
-    AreLevels-grown c.requires.machine.0 c.requires.levels.0 c.args.rows.now c.requires.machine.1 hs0 c.loop-k.hashes.items c.requires.levels.1 c.requires.levels.2 to
+    let all : c.loop-k.k ≡ c.args.depth = omega (arith, c.loop-k-test.false, c.loop-k.auto.k-end) in
+    let to : AreLevelsTo c.args.rows.now (length hs0) c.args.depth hs0 c.loop-k.hashes.items = subst (λ k. AreLevelsTo c.args.rows.now (length hs0) k hs0 c.loop-k.hashes.items) all c.loop-k.invariant in
+    AreLevels-grown c.requires.machine.0 c.requires.levels.0 c.args.rows.now c.requires.machine.1 c.args.depth hs0 c.loop-k.hashes.items c.requires.levels.1 c.requires.levels.2 to
 
 pub returns-clause-same : goal.returns-clause-same
 returns-clause-same c = λ s l.
     let hs0 = c.args.hashes.now.items in
     let hs = c.loop-k.hashes.items in
     let h = c.requires.levels.1 in
-    level-at hs 24 s (omega (arith, l, h.count, c.requires.levels.2.least, c.loop-k.invariant.count)) ∙ c.loop-k.invariant.old s 24 l ∙ sym (level-at hs0 24 s l)
+    level-at hs c.args.depth s (omega (arith, l, h.count, c.requires.levels.2.least, c.loop-k.invariant.count)) ∙ c.loop-k.invariant.old s c.args.depth l ∙ sym (level-at hs0 c.args.depth s l)

@@ -8,7 +8,7 @@ use Rattle.fr_machine.proofs.LimitLaws.{HasMoreClasses-from, HasMoreClasses-gues
 use Rattle.fr_machine.proofs.partition.classes_within.Goals as goal
 
 pub refined-requires : goal.refined-requires
-refined-requires c = record { machine = (c.args.m.now.alphabet, rw c.rows-rows.ensures.value c.rows-rows.ensures.valid); guess = c.in_ok-guess.ensures }
+refined-requires c = record { machine = (c.args.m.now.alphabet, rw c.rows-rows.ensures.value c.rows-rows.ensures.valid); guess = c.in_ok-guess.ensures.guess }
 
 pub by_first_places-requires : goal.by_first_places-requires
 by_first_places-requires c =
@@ -42,15 +42,15 @@ returns c =
 pub returns-then-guess-limit : goal.returns-then-guess-limit
 returns-then-guess-limit c =
     let rows = c.rows-rows.result.now in
-    let guess = c.in_ok-guess.guess in
-    let h : HasMoreClasses rows c.args.limit = HasMoreClasses-guessed rows guess.of.items guess.count c.args.limit c.in_ok-guess.ensures c.if-guess-limit.true in
+    let guess = c.in_ok-guess.guess.numbering in
+    let h : HasMoreClasses rows c.args.limit = HasMoreClasses-guessed rows guess.of.items guess.count c.args.limit c.in_ok-guess.ensures.guess c.if-guess-limit.true in
     rw c.rows-rows.ensures.value at h
 
 pub returns-then-branch : goal.returns-then-branch
 returns-then-branch c =
     let rows = c.rows-rows.result.now in
     let m : IsMachine c.args.m.now.alphabet rows = rw c.rows-rows.ensures.value c.rows-rows.ensures.valid in
-    let guess = c.in_ok-guess.guess in
+    let guess = c.in_ok-guess.guess.numbering in
     let stable = c.in_ok-is_stable.ensures c.if-branch.true in
     rw (← c.rows-rows.ensures.value)
-    (AreClasses-guessed c.args.m.now.alphabet rows m guess.of.items guess.count c.in_ok-guess.ensures stable, not-HasMoreClasses-guessed c.args.m.now.alphabet rows m guess.of.items guess.count c.args.limit c.in_ok-guess.ensures stable (omega (arith, c.if-guess-limit.false)))
+    (AreClasses-guessed c.args.m.now.alphabet rows m guess.of.items guess.count c.in_ok-guess.ensures.guess stable, not-HasMoreClasses-guessed c.args.m.now.alphabet rows m guess.of.items guess.count c.args.limit c.in_ok-guess.ensures.guess stable (omega (arith, c.if-guess-limit.false)))
