@@ -1,4 +1,6 @@
 pub mod PairLaws
 pub mod LimitLaws
 pub mod PeelLaws
+pub mod AloneLaws
+pub mod SpreadLaws
 pub mod AddingLaws

@@ -12,6 +12,7 @@ use Rattle.std.proofs.lemmas.Map.Steps.{length-le_from_distinct_below}
 use Rattle.fr_model.specs.Words.{IsLetter, IsWord}
 use Rattle.fr_model.specs.Automata.{State, state_at, next_state, state_after, IsAutomaton, IsReached, IsLimitState}
 use Rattle.fr_model.proofs.PermutationLaws.{present_place, present_at}
+use Rattle.fr_model.proofs.TermLaws.{IsWord-append}
 use Rattle.fr_model.proofs.AutomatonLaws.{state_is, next_state-lt}
 use Rattle.fr_product.specs.Limits.{times, arrivals_from, arriving, IsIn, AreApart}
 
@@ -92,16 +93,36 @@ apart-le xs n apart below =
     omega (arith, below r.0 r.1, get_or_default xs r.0 0 q r.1, r.3))
 
 -- ---- limit states
+pub state_after-append : (qs : List State) (s : ℕ) (v w : List ℕ) → state_after qs s (v ++ w) ≡ state_after qs (state_after qs s v) w
+state_after-append qs s [] w = refl
+state_after-append qs s (x ∷ v) w = state_after-append qs (next_state qs s x) v w
+
 module _ (d : ℕ) (qs : List State) (g : IsAutomaton d qs) where
   -- the next state at a letter stands among the next states
-  next-in : (s x : ℕ) → s < length qs → IsLetter d x → IsIn (state_at qs s).next (next_state qs s x)
+  pub next-in : (s x : ℕ) → s < length qs → IsLetter d x → IsIn (state_at qs s).next (next_state qs s x)
   next-in s zero l a = absurd (omega (arith, a.0))
   next-in s (suc k) l a =
       let inside : k < length (state_at qs s).next = omega (arith, (state_is d qs s g l).arity, a.1) in
       record { place = k; inside = inside; is = get_or_default (state_at qs s).next k 0 s inside }
 
-  in-next : (s y : ℕ) → s < length qs → IsIn (state_at qs s).next y → (x : ℕ) × IsLetter d x × (next_state qs s x ≡ y)
+  pub in-next : (s y : ℕ) → s < length qs → IsIn (state_at qs s).next y → (x : ℕ) × IsLetter d x × (next_state qs s x ≡ y)
   in-next s y l h = (suc h.place, (omega arith, omega (arith, h.inside, (state_is d qs s g l).arity)), get_or_default (state_at qs s).next h.place s 0 h.inside ∙ h.is)
+
+  -- the next states of a limit state are limit states
+  pub limit_next : (s x : ℕ) → IsLetter d x → IsLimitState d qs s → IsLimitState d qs (next_state qs s x)
+  limit_next s x a h = record {
+    on = h.on;
+    state = h.state;
+    round = h.round;
+    round_valid = h.round_valid;
+    some = h.some;
+    back = h.back;
+    reached = record {
+      along = h.reached.along ++ x ∷ [];
+      valid = IsWord-append d h.reached.along (x ∷ []) h.reached.valid (a, tt);
+      there = state_after-append qs h.on h.reached.along (x ∷ []) ∙ ap (λ r. next_state qs r x) h.reached.there;
+    };
+  }
 
   -- a state before this one
   record HasBefore (r : ℕ) (P : ℕ → Type 0) : Type 0 where

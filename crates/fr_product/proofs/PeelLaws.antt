@@ -1,12 +1,12 @@
 -- What the steps of the peeling keep.
-use Rattle.std.proofs.Common.{ℕ, zero, suc, ◌≡◌, ◌≢◌, ◌+◌, ◌-◌, ◌*◌, ◌<◌, ◌≤◌, ◌⊎◌, inl, inr, Bool, true, false, List, [], ◌∷◌, ◌++◌, length, get_or, set, replicate, take, refl, sym, ◌∙◌, ap, subst, arith}
-use Rattle.std.proofs.lemmas.List.{get_or_append_left, get_or_push, length_push, get_or-set_same, get_or-set_other, length-set, get_or-replicate, length-replicate, take_more, length-take}
+use Rattle.std.proofs.Common.{ℕ, zero, suc, ◌≡◌, ◌≢◌, ◌+◌, ◌-◌, ◌*◌, ◌<◌, ◌≤◌, ◌⊎◌, inl, inr, Bool, true, false, List, [], ◌∷◌, ◌++◌, length, get_or, set, replicate, take, drop, refl, sym, ◌∙◌, ap, subst, arith}
+use Rattle.std.proofs.lemmas.List.{get_or_append_left, get_or_push, length_push, get_or-set_same, get_or-set_other, length-set, get_or-replicate, length-replicate, take_more, drop_more, get_or-take, length-take, length-take-le}
 use Rattle.std.proofs.lemmas.List.Sums.{sum_by-append}
 use Rattle.std.proofs.lemmas.Bool.{cases_lt, cases_eq}
 use Rattle.std.specs.List.{All}
 use Rattle.fr_model.specs.Automata.{State, state_at, IsAutomaton, IsLimitState}
 use Rattle.fr_machine.specs.declared.row.Row.{Row}
-use Rattle.fr_machine.specs.Rows.{state_of, states_of, IsMachine}
+use Rattle.fr_machine.specs.Rows.{state_of, states_of, IsRow, IsMachine}
 use Rattle.fr_machine.proofs.RowLaws.{IsAutomaton-states_of, length-states_of}
 use Rattle.fr_product.specs.Limits.{times, arrivals_from, arriving, IsIn, AreApart, AreUnreached, IsPeeling, AreLimitRows}
 use Rattle.fr_product.proofs.LimitLaws.{times-here, times-other, times-le, times-append, arriving-set, arriving-all, peeled, remaining}
@@ -38,15 +38,21 @@ counted_more y n x old now now' nexts l k e f h =
           omega (arith, here, next, h, times-other y n [] t)
     ]
 
+-- the next rows from a letter on
+pub next_rows-split : (d n x : ℕ) (r : Row) → IsRow d n r → d ≤ 8 → x < length r.perm → drop x (state_of r).next ≡ get_or r.next x 0 ∷ drop (x + 1) (state_of r).next
+next_rows-split d n x r h few l =
+    let size : length (take (length r.perm) r.next) ≡ length r.perm = length-take-le (length r.perm) r.next (omega (arith, h.width, h.permutes.degree)) in
+    drop_more (take (length r.perm) r.next) x 0 (omega (arith, size)) ∙ ap (λ k. k ∷ drop (x + 1) (take (length r.perm) r.next)) (get_or-take (length r.perm) r.next x 0 l)
+
 -- ---- rows to which none leads
-IsIn-push : (xs : List ℕ) (x y : ℕ) → IsIn xs y → IsIn (xs ++ x ∷ []) y
+pub IsIn-push : (xs : List ℕ) (x y : ℕ) → IsIn xs y → IsIn (xs ++ x ∷ []) y
 IsIn-push xs x y h = record { place = h.place; inside = omega (arith, h.inside, length_push xs x); is = get_or_append_left xs (x ∷ []) 0 h.place h.inside ∙ h.is }
 
-IsIn-last : (xs : List ℕ) (x : ℕ) → IsIn (xs ++ x ∷ []) x
+pub IsIn-last : (xs : List ℕ) (x : ℕ) → IsIn (xs ++ x ∷ []) x
 IsIn-last xs x = record { place = length xs; inside = omega (arith, length_push xs x); is = get_or_push xs x 0 (length xs) refl }
 
 -- all but the last
-IsIn-front : (xs : List ℕ) (x y : ℕ) → IsIn (xs ++ x ∷ []) y → x ≢ y → IsIn xs y
+pub IsIn-front : (xs : List ℕ) (x y : ℕ) → IsIn (xs ++ x ∷ []) y → x ≢ y → IsIn xs y
 IsIn-front xs x y h n = elim (cases_lt h.place (length xs)) [
   | inl l ↦ record { place = h.place; inside = l; is = sym (get_or_append_left xs (x ∷ []) 0 h.place l) ∙ h.is }
   | inr g ↦ let at : length xs ≡ h.place = omega (arith, h.inside, length_push xs x) in absurd (n (sym (get_or_push xs x 0 h.place at) ∙ h.is))

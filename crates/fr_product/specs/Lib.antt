@@ -1,2 +1,4 @@
 pub mod Products
 pub mod Limits
+pub mod Growing
+pub mod Spreading

@@ -4,10 +4,12 @@
 //! (Grigorchuk, Nekrashevych and Sushchanskii, Automata, dynamical systems, and groups).
 #![tactic(auto)]
 
+mod growing;
 mod limits;
 mod pairs;
 #[cfg(test)]
 mod tests;
 
+pub use growing::GrowingLimits;
 pub use limits::limit_rows;
 pub use pairs::{PAIR_LIMIT, ProductFault, product};

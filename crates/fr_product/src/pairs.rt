@@ -9,11 +9,14 @@ ghost use Rattle.fr_product.specs.Products.{IsProduct, pair_step, pair_output};
 
 use fr_alphabet::{NoMemory, Perm};
 use fr_machine::{Machine, Minimal, Row, Walk};
-use std::alloc::{AllocFailed, Global};
+use std::alloc::{AllocError, AllocFailed, Global};
 use thiserror::Error;
 
 /// The most rows of a product. This limit is the project's own.
 pub const PAIR_LIMIT: usize = 65536;
+
+// For how many rows room is taken at first, so that small products take it once.
+const FIRST_ROOM: usize = 64;
 
 /// Why there is no product.
 #[derive(Clone, Copy, Debug, PartialEq, Eq, Error)]
@@ -33,6 +36,17 @@ impl<T: Drop> From<AllocFailed<T>> for ProductFault {
     ghost from_gives = { λ _ e. e ≡ NoMemory };
 
     fn from(_failed: AllocFailed<T>) -> ProductFault {
+        ProductFault::NoMemory
+    }
+}
+
+impl From<AllocError> for ProductFault {
+    ghost use Rattle.std.specs.Prelude.{◌≡◌};
+    ghost use Rattle.fr_product.specs.declared.pairs.ProductFault.TheVariants.{NoMemory};
+
+    ghost from_gives = { λ _ e. e ≡ NoMemory };
+
+    fn from(_failed: AllocError) -> ProductFault {
         ProductFault::NoMemory
     }
 }
@@ -79,7 +93,7 @@ pub fn product(
         m.rows().len() * n.rows().len(),
         s as u32 * width + t as u32,
     )?;
-    let mut rows = Vec::new(alloc);
+    let mut rows = Vec::with_capacity(alloc, FIRST_ROOM)?;
     while rows.len() < walk.keys().len() {
         let key = walk.keys()[rows.len()];
         let row = row_of(m, n, &mut walk, key)?;

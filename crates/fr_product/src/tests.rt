@@ -1,6 +1,7 @@
 //! The adding machine times itself.
 
 ghost use Rattle.std.specs.Prelude.{◌≡◌, IfOk, length};
+ghost use Rattle.fr_machine.specs.Growing.{IsLonger};
 
 use super::*;
 use fr_alphabet::{Alphabet, NoMemory, Perm};
@@ -38,5 +39,52 @@ fn the_square_of_the_adding_machine_has_four_pairs(rt: HostRuntime) -> Result<()
         limit_rows(alloc, &square)?.as_slice(),
         [false, true, true, true].as_slice()
     );
+    Ok(())
+}
+
+// The machine with these rows and, behind them, rows that leave each letter and have these next rows.
+fn grown(a: Alphabet, mut rows: Vec<Row>, nexts: &[[u16; 2]]) -> Result<Machine, Fail>
+    ensures alphabet { IfOk result (λ m. m.alphabet ≡ a) }
+    ensures longer { IfOk result (λ m. IsLonger rows.items m.rows) }
+{
+    for [first, second] in nexts {
+        rows.push(Row {
+            perm: Perm::identity(a),
+            next: [*first, *second, 0, 0, 0, 0, 0, 0],
+        })?;
+    }
+    Ok(Machine::new(a, rows).ok_or("rows")?)
+}
+
+#[test]
+fn new_cycles_reach_old_rows(rt: HostRuntime) -> Result<(), Fail> {
+    let alloc = rt.alloc();
+    let a = Alphabet::new(2).ok_or("letters")?;
+    let mut rows = Vec::new(alloc);
+    let mut limits = GrowingLimits::new(alloc);
+    let steps = [
+        (
+            [[1, 2], [2, 2], [2, 2], [0, 0]].as_slice(),
+            [false, false, true, false].as_slice(),
+        ),
+        (
+            [[0, 4], [4, 3]].as_slice(),
+            [true, true, true, false, true, false].as_slice(),
+        ),
+        (
+            [[5, 3]].as_slice(),
+            [true, true, true, false, true, false, false].as_slice(),
+        ),
+        (
+            [[8, 5], [7, 7]].as_slice(),
+            [true, true, true, true, true, true, false, true, true].as_slice(),
+        ),
+    ];
+    for (nexts, marks) in steps {
+        let m = grown(a, rows, nexts)?;
+        limits.extend(alloc, &m)?;
+        assert_eq!(rt; limits.marks(), marks);
+        rows = m.into_rows();
+    }
     Ok(())
 }

@@ -20,7 +20,7 @@ loop-n-init c =
     let n = c.machine-n.result.now.rows in
     let w = ap length c.rows.ensures.value in
     record {
-      built = IsBuilt-start c.machine-m.result.now.alphabet (length m * length n) (pair_step (states_of m) (states_of n) (length n)) (pair_output (states_of m) (states_of n) (length n)) (c.args.s * length n + c.args.t) c.in_ok-walk.walk.keys c.new-rows.result.items (c.in_ok-walk.ensures.keys ∙ ap (λ k. (c.args.s * k + c.args.t) ∷ []) w) c.new-rows.ensures.items;
+      built = IsBuilt-start c.machine-m.result.now.alphabet (length m * length n) (pair_step (states_of m) (states_of n) (length n)) (pair_output (states_of m) (states_of n) (length n)) (c.args.s * length n + c.args.t) c.in_ok-walk.walk.keys c.in_ok-rows.rows.items (c.in_ok-walk.ensures.keys ∙ ap (λ k. (c.args.s * k + c.args.t) ∷ []) w) c.in_ok-rows.ensures.items;
       bound = c.in_ok-walk.ensures.bound ∙ ap (λ r. length r * length c.rows-3.result.now) c.rows-2.ensures.value ∙ ap (λ r. length m * length r) c.rows-3.ensures.value;
     }
 
