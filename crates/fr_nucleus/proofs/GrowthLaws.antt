@@ -18,10 +18,10 @@ use Rattle.fr_product.proofs.PairLaws.{pair_lt}
 use Rattle.fr_nucleus.specs.Depths.{mark_at}
 use Rattle.fr_nucleus.specs.Rows.{HasRow, AreFewRows}
 use Rattle.fr_nucleus.specs.Products.{IsProductTable}
-use Rattle.fr_nucleus.specs.Numberings.{place_at, ArePlaces, AreEmptyPlaces, IsNumberingOf, IsOverfull, AreGrown, AreMembers, HasMoreOf, IsClosure}
+use Rattle.fr_nucleus.specs.Numberings.{AreOutside, IsNumberingOf, IsOverfull, AreGrown, AreMembers, HasMoreOf, IsClosure}
 use Rattle.fr_nucleus.proofs.NextLaws.{alike_rows, alike_perms, alike_nexts, leads-lt}
 use Rattle.fr_nucleus.proofs.ProductLaws.{IsMachine-products, alike_product_row, alike_pair}
-use Rattle.fr_nucleus.proofs.NumberingLaws.{new_next, IsMachine-grown}
+use Rattle.fr_nucleus.proofs.NumberingLaws.{IsMachine-grown}
 use Rattle.fr_nucleus.proofs.LimitLaws.{state_after-append}
 use Rattle.fr_nucleus.proofs.NucleusLaws.{one_section, member_alike, product_member}
 
@@ -157,9 +157,9 @@ module _ (d : ℕ) (qs ms products : List Row) (q : IsMachine d qs) (m : IsMachi
         let same = same_class _ _ ns nr (alike_nexts d products products products_machine products_machine s r z.1 l alike x k) in
         subst (Contains keys) same (n.has (get_or (row_at products s).next x 0) ns (limit_next s x z.1 k z.2))
 
-    module _ (places : List (Option ℕ)) (rows : List Row) (pl : ArePlaces of keys places (length products)) (g : AreGrown of keys places products ms rows) (all : length rows ≡ length keys) where
+    module _ (rows : List Row) (g : AreGrown of keys products ms rows) (all : length rows ≡ length keys) where
       grown_machine : IsMachine d rows
-      grown_machine = IsMachine-grown d of keys places products ms rows products_machine m n.keyed.few pl g (omega (arith, all))
+      grown_machine = IsMachine-grown d of keys products ms rows products_machine m n.keyed.few g (omega (arith, all))
 
       -- a row of members acts as the products of its class
       step : (i r : ℕ) → (i < length rows) × (r < length products) × (get_or of r 0 ≡ get_or keys i 0) → (i < length rows) × (r < length products) × ((row_at rows i).perm ≡ (row_at products r).perm) × ((x : ℕ) → x < d → (get_or (row_at rows i).next x 0 < length rows) × (get_or (row_at products r).next x 0 < length products) × (get_or of (get_or (row_at products r).next x 0) 0 ≡ get_or keys (get_or (row_at rows i).next x 0) 0))
@@ -191,7 +191,7 @@ module _ (d : ℕ) (qs ms products : List Row) (q : IsMachine d qs) (m : IsMachi
               λ x k.
                   let ns = leads-lt d products products_machine s x z.1 k in
                   let nr = leads-lt d products products_machine r x h.1 k in
-                  let y = new_next d of keys places products ms rows products_machine m n.keyed.few pl g (omega (arith, all)) (row_at rows i) (row_at products s) x ns (z.3.nexts x (omega (arith, k, degree))) in
+                  let y = z.3.nexts x (omega (arith, k, degree)) in
                   let same = same_class _ _ nr ns (alike_sym (alike_nexts d products products products_machine products_machine s r z.1 h.1 alike x k)) in
                   (omega (arith, y.0, all), nr, same ∙ sym y.1),
             )
@@ -247,22 +247,14 @@ module _ (d : ℕ) (qs ms products : List Row) (q : IsMachine d qs) (m : IsMachi
           let p = member_pair h.0 h.1 in
           contains_key h.0 (get_or of r 0) (omega (arith, h.1, n.least)) (n.known h.0 h.1 ∙ same_class (h.0 * length qs) r p.0 l (alike_trans p.1 (alike_sym h.2)))
 
-      pub IsClosure-from : (places : List (Option ℕ)) (marks : List Bool) → ArePlaces of keys places (length products) → AreEmptyPlaces places marks (length places) → IsClosure d qs ms products marks
-      IsClosure-from places marks pl em = record {
+      pub IsClosure-from : (marks : List Bool) → AreOutside of keys marks (length products) → IsClosure d qs ms products marks
+      IsClosure-from marks o = record {
         sections = q;
         machine = m;
         members = a;
         table = t;
         limits = limits_held;
-        count = em.count ∙ pl.count;
-        inside = λ r l e. inside r l e (place_at places r) (pl.each r l) (em.each r (omega (arith, pl.count)));
-        outer = λ r l e h. outer r l e h (place_at places r) (pl.each r l) (em.each r (omega (arith, pl.count)));
+        count = o.count;
+        inside = λ r l e. let c = o.inner r l e in has_member r c.0 l c.1 (sym (get_or_default keys c.0 (get_or of r 0) 0 c.1) ∙ c.2);
+        outer = λ r l e h. o.outer r l e (held_class r l h);
       }
-        where
-          inside : (r : ℕ) → r < length products → mark_at marks r ≡ false → (o : Option ℕ) → MatchOption o (¬ Contains keys (get_or of r 0)) (λ i. (i < length keys) × (get_or keys i 0 ≡ get_or of r 0)) → MatchOption o (mark_at marks r ≡ true) (λ _. mark_at marks r ≡ false) → HasRow ms (row_term products r)
-          inside r l e None p f = let no : false ≡ true = sym e ∙ f in cc
-          inside r l e (Some i) p f = has_member r i l p.0 p.1
-
-          outer : (r : ℕ) → r < length products → mark_at marks r ≡ true → HasRow ms (row_term products r) → (o : Option ℕ) → MatchOption o (¬ Contains keys (get_or of r 0)) (λ i. (i < length keys) × (get_or keys i 0 ≡ get_or of r 0)) → MatchOption o (mark_at marks r ≡ true) (λ _. mark_at marks r ≡ false) → ⊥
-          outer r l e h None p f = p (held_class r l h)
-          outer r l e h (Some i) p f = let no : true ≡ false = sym e ∙ f in cc

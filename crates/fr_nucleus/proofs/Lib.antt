@@ -11,6 +11,7 @@ pub mod CodingLaws
 pub mod DepthLaws
 pub mod GeneratorLaws
 pub mod NumberingLaws
+pub mod SurveyLaws
 pub mod GrowthLaws
 pub mod SortingLaws
 pub mod AnswerLaws

@@ -1,6 +1,6 @@
--- Classes that are numbered, and the places that rows have by them.
-use Rattle.std.proofs.Common.{ℕ, suc, ◌≡◌, ◌≢◌, ◌+◌, ◌*◌, ◌<◌, ◌≤◌, ◌⊎◌, inl, inr, Bool, true, false, Option, Some, None, List, [], ◌∷◌, ◌++◌, length, get_or, refl, sym, ◌∙◌, ap, subst, arith}
-use Rattle.std.specs.Prelude.{MatchOption, IsSome}
+-- Classes that are numbered, and the rows of other classes.
+use Rattle.std.proofs.Common.{ℕ, suc, ◌≡◌, ◌≢◌, ◌+◌, ◌*◌, ◌<◌, ◌≤◌, ◌⊎◌, inl, inr, Bool, true, false, Option, Some, None, is_some, not, List, [], ◌∷◌, ◌++◌, length, get_or, refl, sym, ◌∙◌, ap, subst, arith}
+use Rattle.std.specs.Prelude.{MatchOption}
 use Rattle.std.specs.List.{Contains}
 use Rattle.std.proofs.lemmas.Bool.{cases_lt}
 use Rattle.std.proofs.lemmas.List.{get_or_append_left, get_or_push, length_push, get_or_default}
@@ -15,7 +15,7 @@ use Rattle.fr_machine.proofs.WalkLaws.{Extends-numbered, Extends-trans}
 use Rattle.fr_minimal.specs.Smallest.{IsChoice}
 use Rattle.fr_product.specs.Limits.{AreLimitRows}
 use Rattle.fr_nucleus.specs.Depths.{mark_at}
-use Rattle.fr_nucleus.specs.Numberings.{place_at, ArePlaces, IsPlacedRow, AreKnown, AreNumbered, IsNumberedClass, IsFull, IsNumberingOf, IsOverfull, AreGrown}
+use Rattle.fr_nucleus.specs.Numberings.{AreOutside, IsMemberRow, AreKnown, AreNumbered, IsNumberedClass, IsFull, IsNumberingOf, IsOverfull, AreGrown}
 use Rattle.fr_nucleus.proofs.ListLaws.{choice}
 use Rattle.fr_machine.proofs.RowLaws.{IsRow-filled, IsMachine-rows, row_valid}
 use Rattle.fr_nucleus.proofs.NextLaws.{row_at_old, row_at_new, row_zero, leads-lt}
@@ -90,23 +90,16 @@ first_of_class of firsts r class h l e =
     let o = h.own r l in
     subst (λ c. (c < length firsts) × (get_or firsts c 0 < length of) × (get_or of (get_or firsts c 0) 0 ≡ c)) e (o.0, o.1, o.2)
 
-pub IsSome-contained : (keys : List ℕ) (x : ℕ) (o : Option ℕ) (key : ℕ → Type 0) → MatchOption o (¬ Contains keys x) key → Contains keys x → IsSome o
-IsSome-contained keys x None key h c = absurd (h c)
-IsSome-contained keys x (Some n) key h c = refl
-
-pub place_is : (o : Option ℕ) (n : ℕ) (P : Type 0) (key : ℕ → Type 0) → MatchOption o P key → o ≡ Some n → key n
-place_is o n P key h e = let G : Option ℕ → Type 0 = λ q. MatchOption q P key in subst G e h
-
-pub AreGrown-start : (of keys : List ℕ) (places : List (Option ℕ)) (products old rows : List Row) → length old ≤ length keys → rows ≡ old → AreGrown of keys places products old rows
-AreGrown-start of keys places products old rows l e = record {
+pub AreGrown-start : (of keys : List ℕ) (products old rows : List Row) → length old ≤ length keys → rows ≡ old → AreGrown of keys products old rows
+AreGrown-start of keys products old rows l e = record {
   least = omega (arith, ap length e);
   within = omega (arith, ap length e);
   same = λ i k. ap (λ xs. row_at xs i) e;
   new = λ i a b. absurd (omega (arith, ap length e));
 }
 
-pub AreGrown-more : (of keys : List ℕ) (places : List (Option ℕ)) (products old rows rows' : List Row) (r : ℕ) (q : Row) → AreGrown of keys places products old rows → length rows < length keys → r < length products → get_or of r 0 ≡ get_or keys (length rows) 0 → IsPlacedRow places (row_at products r) q → rows' ≡ rows ++ q ∷ [] → AreGrown of keys places products old rows'
-AreGrown-more of keys places products old rows rows' r q h l k e p f =
+pub AreGrown-more : (of keys : List ℕ) (products old rows rows' : List Row) (r : ℕ) (q : Row) → AreGrown of keys products old rows → length rows < length keys → r < length products → get_or of r 0 ≡ get_or keys (length rows) 0 → IsMemberRow of keys (row_at products r) q → rows' ≡ rows ++ q ∷ [] → AreGrown of keys products old rows'
+AreGrown-more of keys products old rows rows' r q h l k e p f =
     let size : length rows' ≡ suc (length rows) = omega (arith, ap length f, length_push rows q) in
     record {
       least = omega (arith, size, h.least);
@@ -121,10 +114,7 @@ AreGrown-more of keys places products old rows rows' r q h l k e p f =
       ];
     }
 
-module _ (d : ℕ) (of keys : List ℕ) (places : List (Option ℕ)) (products old rows : List Row) (m : IsMachine d products) (o : IsMachine d old) (few : length keys ≤ 65536) (p : ArePlaces of keys places (length products)) (h : AreGrown of keys places products old rows) (all : length keys ≤ length rows) where
-  pub new_next : (q r : Row) (x : ℕ) → get_or r.next x 0 < length products → place_at places (get_or r.next x 0) ≡ Some (get_or q.next x 0) → (get_or q.next x 0 < length keys) × (get_or keys (get_or q.next x 0) 0 ≡ get_or of (get_or r.next x 0) 0)
-  new_next q r x l e = place_is (place_at places (get_or r.next x 0)) (get_or q.next x 0) (¬ Contains keys (get_or of (get_or r.next x 0) 0)) (λ n. (n < length keys) × (get_or keys n 0 ≡ get_or of (get_or r.next x 0) 0)) (p.each (get_or r.next x 0) l) e
-
+module _ (d : ℕ) (of keys : List ℕ) (products old rows : List Row) (m : IsMachine d products) (o : IsMachine d old) (few : length keys ≤ 65536) (h : AreGrown of keys products old rows) (all : length keys ≤ length rows) where
   valid : (i : ℕ) → i < length rows → IsRow d (length rows) (row_at rows i)
   valid i l = elim (cases_lt i (length old)) [
     | inl t ↦
@@ -136,12 +126,40 @@ module _ (d : ℕ) (of keys : List ℕ) (places : List (Option ℕ)) (products o
         let n = h.new i (omega arith) l in
         let r = row_valid d products m n.0 n.1 in
         IsRow-filled d (length rows) (row_at rows i) o.letters (omega arith) (rw n.3.perm r.permutes) n.3.width
-        (λ x k. omega (arith, (new_next (row_at rows i) (row_at products n.0) x (leads-lt d products m n.0 x n.1 k) (n.3.nexts x (omega (arith, k, r.permutes.degree)))).0, all))
+        (λ x k. omega (arith, (n.3.nexts x (omega (arith, k, r.permutes.degree))).0, all))
         (λ x a b. n.3.zeros x (omega (arith, a, r.permutes.degree)) b)
   ]
 
   pub IsMachine-grown : IsMachine d rows
   IsMachine-grown = IsMachine-rows d rows o.few o.letters (omega (arith, h.least, o.least)) (omega (arith, h.within, few)) valid
+
+-- one more row has its mark
+pub AreOutside-more : (of keys : List ℕ) (marks marks' : List Bool) (s : ℕ) (o : Option ℕ) (none : Bool) → AreOutside of keys marks s → MatchOption o (¬ Contains keys (get_or of s 0)) (λ n. (n < length keys) × (get_or keys n 0 ≡ get_or of s 0)) → is_some o ≡ not none → marks' ≡ marks ++ none ∷ [] → AreOutside of keys marks' (s + 1)
+AreOutside-more of keys marks marks' s o none h p b e = record {
+  count = omega (arith, ap length e, length_push marks none, h.count);
+  outer = λ r l f. elim (cases_lt r s) [
+    | inl t ↦ h.outer r t (sym (older r t) ∙ f)
+    | inr t ↦ (let at : s ≡ r = omega arith in subst (λ i. ¬ Contains keys (get_or of i 0)) at (outer o p b (sym (newest r at) ∙ f)))
+  ];
+  inner = λ r l f. elim (cases_lt r s) [
+    | inl t ↦ h.inner r t (sym (older r t) ∙ f)
+    | inr t ↦ (let at : s ≡ r = omega arith in subst (λ i. Contains keys (get_or of i 0)) at (inner o p b (sym (newest r at) ∙ f)))
+  ];
+}
+  where
+    older : (r : ℕ) → r < s → mark_at marks' r ≡ mark_at marks r
+    older r t = ap (λ ms. mark_at ms r) e ∙ get_or_append_left marks (none ∷ []) false r (omega (arith, h.count))
+
+    newest : (r : ℕ) → s ≡ r → mark_at marks' r ≡ none
+    newest r at = ap (λ ms. mark_at ms r) e ∙ get_or_push marks none false r (h.count ∙ at)
+
+    outer : (q : Option ℕ) → MatchOption q (¬ Contains keys (get_or of s 0)) (λ n. (n < length keys) × (get_or keys n 0 ≡ get_or of s 0)) → is_some q ≡ not none → none ≡ true → ¬ Contains keys (get_or of s 0)
+    outer None p b f = p
+    outer (Some n) p b f = let no : true ≡ false = b ∙ ap not f in absurd cc
+
+    inner : (q : Option ℕ) → MatchOption q (¬ Contains keys (get_or of s 0)) (λ n. (n < length keys) × (get_or keys n 0 ≡ get_or of s 0)) → is_some q ≡ not none → none ≡ false → Contains keys (get_or of s 0)
+    inner None p b f = let no : false ≡ true = b ∙ ap not f in absurd cc
+    inner (Some n) p b f = (n, p.0, get_or_default keys n (get_or of s 0) 0 p.0 ∙ p.1)
 
 -- ---- the whole numbering
 is_limit : (d : ℕ) (products : List Row) (marks : List Bool) → AreLimitRows d products marks → (r : ℕ) → r < length products → (mark_at marks r ≡ true → IsLimitState d (states_of products) r) × (IsLimitState d (states_of products) r → mark_at marks r ≡ true)
@@ -235,10 +253,10 @@ IsOverfull-limits d products members width most h = record {
 }
 
 -- the row of the class that comes next
-pub next_first : (of' of firsts keys' keys : List ℕ) (i len first : ℕ) → of' ≡ of → IsChoice of' firsts → keys' ≡ keys → len ≡ i → first ≡ get_or firsts (get_or keys' len 0) first → (r : ℕ) → r < length of → get_or of r 0 ≡ get_or keys i 0 → (first < length of) × (get_or of first 0 ≡ get_or keys i 0)
-next_first of' of firsts keys' keys i len first e c k n f r l s =
+pub next_first : (of firsts keys' keys : List ℕ) (i len first : ℕ) → IsChoice of firsts → keys' ≡ keys → len ≡ i → first ≡ get_or firsts (get_or keys' len 0) first → (r : ℕ) → r < length of → get_or of r 0 ≡ get_or keys i 0 → (first < length of) × (get_or of first 0 ≡ get_or keys i 0)
+next_first of firsts keys' keys i len first c k n f r l s =
     let class : get_or keys' len 0 ≡ get_or keys i 0 = ap (λ ks. get_or ks len 0) k ∙ ap (λ j. get_or keys j 0) n in
-    let o = first_of_class of firsts r (get_or keys i 0) (subst (λ xs. IsChoice xs firsts) e c) l s in
+    let o = first_of_class of firsts r (get_or keys i 0) c l s in
     let same : first ≡ get_or firsts (get_or keys i 0) 0 = f ∙ ap (λ j. get_or firsts j first) class ∙ get_or_default firsts (get_or keys i 0) first 0 o.0 in
     (omega (arith, same, o.1), ap (λ j. get_or of j 0) same ∙ o.2)
 
@@ -250,9 +268,7 @@ row_of_machine d rows rows' s n r m e l f k =
     let size : length r.perm ≡ d = v.permutes.degree in
     (here, subst (λ a. IsRow a n r) (sym size) (subst (λ a. IsRow d a r) (sym k) v), size)
 
-pub next_placed : (d : ℕ) (of keys : List ℕ) (places places' : List (Option ℕ)) (products : List Row) (r : Row) (s x : ℕ) → IsMachine d products → ArePlaces of keys places (length products) → places' ≡ places → s < length products → r ≡ row_at products s → x < d → Contains keys (get_or of (get_or (row_at products s).next x 0) 0) → IsSome (place_at places' (get_or r.next x 0))
-next_placed d of keys places places' products r s x m p e l here k c =
-    let n = get_or (row_at products s).next x 0 in
-    let h = IsSome-contained keys (get_or of n 0) (place_at places n) (λ i. (i < length keys) × (get_or keys i 0 ≡ get_or of n 0)) (p.each n (leads-lt d products m s x l k)) c in
-    let G : Row → Type 0 = λ q. IsSome (place_at places' (get_or q.next x 0)) in
-    subst G (sym here) (subst (λ ps. IsSome (place_at ps n)) (sym e) h)
+pub next_known : (of keys : List ℕ) (products : List Row) (r : Row) (s x : ℕ) → r ≡ row_at products s → Contains keys (get_or of (get_or (row_at products s).next x 0) 0) → Contains keys (get_or of (get_or r.next x 0) 0)
+next_known of keys products r s x here c =
+    let G : Row → Type 0 = λ q. Contains keys (get_or of (get_or q.next x 0) 0) in
+    subst G (sym here) c

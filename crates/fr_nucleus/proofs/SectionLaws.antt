@@ -106,23 +106,27 @@ module _ (ms ns all : List Row) (j : AreJoined ms ns all) where
 pub HasRow-from : (ms ns : List Row) → ((s : ℕ) → s < length ms → HasRow ns (row_term ms s)) → (t : Term) → HasRow ms t → HasRow ns t
 HasRow-from ms ns h t a = HasRow-alike ns t (row_term ms a.0) a.2 (h a.0 a.1)
 
-module _ (ms ns inverses more rows : List Row) (count : length inverses ≡ length ns) (i : AreInverses ns inverses) (u : IsUnion ms ns more) where
-  pub among_more : (t : Term) → HasRow more t → IsAmong ms ns t
-  among_more t h = elim (u.only h.0 h.1) [
-    | inl a ↦ old (HasRow-alike ms t (row_term more h.0) h.2 a)
-    | inr a ↦ row (HasRow-alike ns t (row_term more h.0) h.2 a)
+module _ (ms ns inverses both : List Row) (count : length inverses ≡ length ns) (i : AreInverses ns inverses) (j : AreJoined ns inverses both) where
+  pub among_either : (t : Term) → HasRowOfEither ms both t → IsAmong ms ns t
+  among_either t (inl h) = old h
+  among_either t (inr h) = elim (cases_lt h.0 (length ns)) [
+    | inl l ↦ row (h.0, l, alike_trans h.2 (j.left h.0 l))
+    | inr l ↦
+        let s = h.0 - length ns in
+        let k : s < length ns = omega (arith, h.1, j.count, count) in
+        let at : length ns + s ≡ h.0 = omega arith in
+        let e : IsAlike (row_term both h.0) (row_term inverses s) = rw at at (j.right s (omega (arith, k, count))) in
+        inverse s k (alike_trans h.2 (alike_trans e (i s k)))
   ]
 
-  pub among_either : (t : Term) → HasRowOfEither more inverses t → IsAmong ms ns t
-  among_either t (inl h) = among_more t h
-  among_either t (inr h) = inverse h.0 (omega (arith, h.1, count)) (alike_trans h.2 (i h.0 (omega (arith, h.1, count))))
-
-  pub HasAll-from : IsUnion more inverses rows → HasAll ms ns rows
-  HasAll-from v = record {
+  pub HasAll-from : (rows : List Row) → IsUnion ms both rows → HasAll ms ns rows
+  HasAll-from rows v = record {
     fine = v.fine;
-    left = λ s l. HasRow-from more rows v.left (row_term ms s) (u.left s l);
-    right = λ s l. HasRow-from more rows v.left (row_term ns s) (u.right s l);
-    inverses = λ s l. HasRow-alike rows (Inverse (row_term ns s)) (row_term inverses s) (alike_sym (i s l)) (v.right s (omega (arith, count)));
+    left = v.left;
+    right = λ s l. HasRow-alike rows (row_term ns s) (row_term both s) (alike_sym (j.left s l)) (v.right s (omega (arith, j.count)));
+    inverses = λ s l.
+        let k : s < length inverses = omega (arith, count) in
+        HasRow-alike rows (Inverse (row_term ns s)) (row_term both (length ns + s)) (alike_sym (alike_trans (j.right s k) (i s l))) (v.right (length ns + s) (omega (arith, j.count, k)));
     only = λ s l. among_either (row_term rows s) (v.only s l);
   }
 

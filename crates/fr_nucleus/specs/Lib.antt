@@ -8,3 +8,4 @@ pub mod Numberings
 pub mod Depths
 pub mod Nuclei
 pub mod Coding
+pub mod Surveys

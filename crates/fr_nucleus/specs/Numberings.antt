@@ -1,5 +1,5 @@
 -- Which products are members, and in what order they were found. This project's own.
-use Rattle.std.specs.Prelude.{ℕ, ◌≡◌, ◌<◌, ◌≤◌, ◌*◌, ◌⊎◌, List, [], ◌∷◌, ◌++◌, Bool, true, false, Option, Some, None, MatchOption, length, slice_index, slice_index_or}
+use Rattle.std.specs.Prelude.{ℕ, ◌≡◌, ◌<◌, ◌≤◌, ◌*◌, ◌⊎◌, List, [], ◌∷◌, ◌++◌, Bool, true, false, length, slice_index}
 use Rattle.std.specs.List.{Contains}
 use Rattle.fr_model.specs.Terms.{One, IsAlike}
 use Rattle.fr_model.specs.Automata.{IsLimitState}
@@ -75,25 +75,17 @@ pub record IsOverfull (d : ℕ) (products : List Row) (members width most : ℕ)
   pub apart : (i j : ℕ) → i < j → j < length rows → ¬ IsAlike (row_term products (slice_index rows i)) (row_term products (slice_index rows j))
   pub either : (i : ℕ) → i < length rows → (slice_index rows i < length products) × (((m : ℕ) × (m < members) × (slice_index rows i ≡ m * width)) ⊎ IsLimitState d (states_of products) (slice_index rows i))
 
--- the place of a row
-abbrev pub place_at : List (Option ℕ) → ℕ → Option ℕ
-place_at places r = slice_index_or places r None
-
--- for each of the first rows the number of its class, if it has one
-pub record ArePlaces (of keys : List ℕ) (places : List (Option ℕ)) (s : ℕ) : Type 0 where
-  pub count : length places ≡ s
-  pub each : (r : ℕ) → r < s → MatchOption (place_at places r) (¬ Contains keys (slice_index of r)) (λ n. (n < length keys) × (slice_index keys n ≡ slice_index of r))
-
--- a mark for each of the first rows that has no place
-pub record AreEmptyPlaces (places : List (Option ℕ)) (marks : List Bool) (s : ℕ) : Type 0 where
+-- a mark for each of the first rows whose class has no number
+pub record AreOutside (of keys : List ℕ) (marks : List Bool) (s : ℕ) : Type 0 where
   pub count : length marks ≡ s
-  pub each : (r : ℕ) → r < s → MatchOption (place_at places r) (mark_at marks r ≡ true) (λ _. mark_at marks r ≡ false)
+  pub outer : (r : ℕ) → r < s → mark_at marks r ≡ true → ¬ Contains keys (slice_index of r)
+  pub inner : (r : ℕ) → r < s → mark_at marks r ≡ false → Contains keys (slice_index of r)
 
--- a row whose next rows are the places of those of another
-pub record IsPlacedRow (places : List (Option ℕ)) (r q : Row) : Type 0 where
+-- a row whose next rows are the numbers of the classes of those of another
+pub record IsMemberRow (of keys : List ℕ) (r q : Row) : Type 0 where
   pub perm : q.perm ≡ r.perm
   pub width : length q.next ≡ 8
-  pub nexts : (x : ℕ) → x < length r.perm → place_at places (slice_index r.next x) ≡ Some (slice_index q.next x)
+  pub nexts : (x : ℕ) → x < length r.perm → (slice_index q.next x < length keys) × (slice_index keys (slice_index q.next x) ≡ slice_index of (slice_index r.next x))
   pub zeros : (x : ℕ) → length r.perm ≤ x → x < 8 → slice_index q.next x ≡ 0
 
 -- a class that has a number
@@ -109,8 +101,8 @@ pub record IsTooMany (bound : ℕ) (keys : List ℕ) (class most : ℕ) : Type 0
   pub fresh : ¬ Contains keys class
 
 -- the members that were known stay, and the others are made of rows of their classes
-pub record AreGrown (of keys : List ℕ) (places : List (Option ℕ)) (products old rows : List Row) : Type 0 where
+pub record AreGrown (of keys : List ℕ) (products old rows : List Row) : Type 0 where
   pub least : length old ≤ length rows
   pub within : length rows ≤ length keys
   pub same : (i : ℕ) → i < length old → row_at rows i ≡ row_at old i
-  pub new : (i : ℕ) → length old ≤ i → i < length rows → (r : ℕ) × (r < length products) × (slice_index of r ≡ slice_index keys i) × IsPlacedRow places (row_at products r) (row_at rows i)
+  pub new : (i : ℕ) → length old ≤ i → i < length rows → (r : ℕ) × (r < length products) × (slice_index of r ≡ slice_index keys i) × IsMemberRow of keys (row_at products r) (row_at rows i)

@@ -2,15 +2,17 @@
 
 ghost use Rattle.std.specs.Prelude.{◌≡◌, ◌<◌, ◌≤◌, ◌⊎◌, List, IfOk, IfErr, OnOk, length};
 ghost use Rattle.fr_machine.specs.declared.row.Row.{Row};
-ghost use Rattle.fr_machine.specs.Growing.{IsGrowing, IsLonger};
+ghost use Rattle.fr_machine.specs.Growing.{IsLonger};
 ghost use Rattle.fr_nucleus.specs.Rows.{AreFewRows};
 ghost use Rattle.fr_nucleus.specs.Products.{IsProductTable};
-ghost use Rattle.fr_nucleus.specs.Numberings.{AreMembers, IsNumberingOf, ArePlaces, IsClosure, HasMoreOf};
+ghost use Rattle.fr_nucleus.specs.Numberings.{AreMembers, IsNumberingOf, IsClosure, HasMoreOf};
+ghost use Rattle.fr_nucleus.specs.Surveys.{IsSurvey, classes_of};
 
 use crate::fault::NucleusFault;
-use crate::numbering::{Numbering, empty_places};
+use crate::numbering::{check_guess, grown_members, number_classes, outside_of};
 use crate::pairs::with_products;
-use fr_machine::{GrowingClasses, Machine};
+use crate::survey::Survey;
+use fr_machine::{Machine, Walk};
 use std::alloc::Global;
 
 /// The members of the closure, and their products with the sections of generators.
@@ -39,14 +41,14 @@ pub fn close(alloc: Global, sections: &Machine, most: u16) -> Result<Closure, Nu
 {
     let mut members = Machine::identity(alloc, sections.alphabet())?;
     let mut products = with_products(Vec::new(alloc), &members, sections)?;
-    let mut classes = GrowingClasses::new(alloc)?;
-    let mut numbering = number_products(alloc, &members, &products, &mut classes, sections, most)?;
-    while numbering.count() > members.rows().len() {
-        members = numbering.members(alloc, &products, &members)?;
+    let mut survey = Survey::new(alloc)?;
+    let mut walk = number_products(alloc, &members, &products, &mut survey, sections, most)?;
+    while walk.keys().len() > members.rows().len() {
+        members = grown_members(alloc, survey.of(&products), &walk, &products, &members)?;
         products = with_products(products.into_rows(), &members, sections)?;
-        numbering = number_products(alloc, &members, &products, &mut classes, sections, most)?;
+        walk = number_products(alloc, &members, &products, &mut survey, sections, most)?;
     }
-    let outside = empty_places(alloc, &numbering.places)?;
+    let outside = outside_of(alloc, survey.of(&products), &walk)?;
     Ok(Closure {
         members,
         products,
@@ -54,30 +56,32 @@ pub fn close(alloc: Global, sections: &Machine, most: u16) -> Result<Closure, Nu
     })
 }
 
-// Numbers the products that are members, where `classes` has those of the products before.
+// Numbers the classes of products that are members, where `survey` has what is known of the products before.
 fn number_products(
     alloc: Global,
     members: &Machine,
     products: &Machine,
-    classes: &mut GrowingClasses,
+    survey: &mut Survey,
     sections: &Machine,
     most: u16,
-) -> Result<Numbering, NucleusFault>
+) -> Result<Walk, NucleusFault>
     requires members_over { members.now.alphabet ≡ sections.now.alphabet }
     requires products_over { products.now.alphabet ≡ sections.now.alphabet }
     requires sections { AreFewRows sections.now.rows }
     requires members { AreMembers sections.now.alphabet sections.now.rows members.now.rows }
     requires table { IsProductTable members.now.rows sections.now.rows products.now.rows }
-    requires classes { (old : List Row) × IsGrowing old classes.old × IsLonger old products.now.rows }
+    requires survey { (old : List Row) × IsSurvey sections.now.alphabet old survey.old × IsLonger old products.now.rows }
     requires few { length members.now.rows ≤ most }
     requires most { most ≤ 256 }
-    ensures classes { OnOk result (IsGrowing products.now.rows classes.new) }
-    ensures numbers { IfOk result (λ n. IsNumberingOf sections.now.alphabet products.now.rows (length members.now.rows) (length sections.now.rows) most n.of.items n.walk.keys) }
-    ensures places { IfOk result (λ n. ArePlaces n.of.items n.walk.keys n.places.items (length products.now.rows)) }
+    ensures survey { OnOk result (IsSurvey sections.now.alphabet products.now.rows survey.new) }
+    ensures numbers { IfOk result (λ w. IsNumberingOf sections.now.alphabet products.now.rows (length members.now.rows) (length sections.now.rows) most (classes_of survey.new) w.keys) }
+    ensures bound { IfOk result (λ w. w.bound ≡ length (classes_of survey.new)) }
     ensures err { IfErr result (λ e. (e ≡ NucleusFault.NoMemory) ⊎ ((e ≡ NucleusFault.Passes most) × HasMoreOf sections.now.alphabet sections.now.rows most)) }
 {
     let count = members.rows().len() as u16;
     let width = sections.rows().len() as u16;
-    classes.extend(products)?;
-    Numbering::new(alloc, products, classes, count, width, most)
+    survey.extend(alloc, products)?;
+    check_guess(alloc, products, survey, most)?;
+    survey.refine(alloc, products)?;
+    number_classes(alloc, products, survey, count, width, most)
 }

@@ -18,7 +18,8 @@ pub fn joined(alloc: Global, m: &Machine, n: &Machine) -> Result<Machine, NoMemo
     ensures rows { IfOk result (λ q. AreJoined m.now.rows n.now.rows q.rows) }
 {
     let first = m.rows().len();
-    let mut rows = Vec::from_slice(alloc, m.rows())?;
+    let mut rows = Vec::with_capacity(alloc, first + n.rows().len())?;
+    rows.extend_from_slice(m.rows())?;
     for row in n.rows() {
         rows.push(shifted(row, first as u16))?;
     }

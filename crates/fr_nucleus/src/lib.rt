@@ -17,6 +17,7 @@ mod joining;
 mod numbering;
 mod pairs;
 mod sections;
+mod survey;
 #[cfg(test)]
 mod tests;
 

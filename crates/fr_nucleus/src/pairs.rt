@@ -44,6 +44,7 @@ fn push_products(rows: &mut Vec<Row>, members: &Machine, sections: &Machine) -> 
     ensures longer { OnOk result (IsLonger rows.old.items rows.new.items) }
 {
     let count = members.rows().len() * sections.rows().len();
+    rows.reserve(count - rows.len())?;
     while rows.len() < count {
         rows.push(product_row(members, sections, rows.len() as u16))?;
     }

@@ -44,15 +44,15 @@ fn with_sections(alloc: Global, found: &Machine, m: &Machine) -> Result<Machine,
     ensures err { IfErr result (λ e. (e ≡ NucleusFault.NoMemory) ⊎ ((e ≡ NucleusFault.TooManySections) × HasMoreThan (IsAmong found.now.rows m.now.rows) IsAlike 64)) }
 {
     let inverse = m.inverse(alloc)?;
-    let more = with_rows(alloc, found, m)?;
-    with_rows(alloc, &more, &inverse)
+    let both = joined(alloc, m, &inverse)?;
+    with_rows(alloc, found, &both)
 }
 
 // The rows of both machines, one of those that act alike, where those of the first come first.
 fn with_rows(alloc: Global, found: &Machine, m: &Machine) -> Result<Machine, NucleusFault>
     requires alphabets { found.now.alphabet ≡ m.now.alphabet }
     requires found { AreFewRows found.now.rows }
-    requires few { length m.now.rows ≤ 1024 }
+    requires few { length m.now.rows ≤ 2048 }
     ensures alphabet { IfOk result (λ q. q.alphabet ≡ found.now.alphabet) }
     ensures rows { IfOk result (λ q. IsUnion found.now.rows m.now.rows q.rows) }
     ensures err { IfErr result (λ e. (e ≡ NucleusFault.NoMemory) ⊎ ((e ≡ NucleusFault.TooManySections) × HasMoreThan (HasRowOfEither found.now.rows m.now.rows) IsAlike 64)) }
