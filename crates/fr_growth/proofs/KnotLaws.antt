@@ -1,5 +1,5 @@
 -- Why the steps of a search along a path of knots keep what is known, and what it ends with.
-use Rattle.std.proofs.Common.{ℕ, ◌≡◌, ◌+◌, ◌-◌, ◌<◌, ◌≤◌, ◌⊎◌, inl, inr, List, [], ◌∷◌, ◌++◌, ◌≢◌, length, get_or, set, take, min, refl, sym, ◌∙◌, ap, arith}
+use Rattle.std.proofs.Common.{ℕ, suc, ◌≡◌, ◌+◌, ◌-◌, ◌<◌, ◌≤◌, ◌⊎◌, inl, inr, List, [], ◌∷◌, ◌++◌, ◌≢◌, length, get_or, set, take, min, refl, sym, ◌∙◌, ap, arith}
 use Rattle.std.specs.List.{sum_by}
 use Rattle.std.proofs.lemmas.Bool.{cases_lt, cases_eq}
 use Rattle.std.proofs.lemmas.List.{get_or_append_left, get_or_push, length_push, get_or-set_same, get_or-set_other, length-set, get_or-take, length-take, take_all, take_more, get_or_default}
@@ -110,6 +110,10 @@ last-most xs n i r l = elim (cases_lt i (length xs - 1)) [
 ]
 
 -- ---- how many rows were met
+pub met_rows-all : (letters : List ℕ) → ((u : ℕ) → u < length letters → 1 ≤ get_or letters u 0) → met_rows letters ≡ length letters
+met_rows-all [] h = refl
+met_rows-all (x ∷ xs) h = omega (arith, sum_by-cons (λ y. min y 1) x xs, met_rows-all xs (λ u l. h (suc u) (omega (arith, l))), h 0 (omega arith))
+
 pub met_rows-le : (letters : List ℕ) → met_rows letters ≤ length letters
 met_rows-le [] = omega arith
 met_rows-le (x ∷ xs) = omega (arith, sum_by-cons (λ y. min y 1) x xs, met_rows-le xs)
@@ -292,6 +296,9 @@ module _ (d : ℕ) (rows : List Row) (m : IsMinimal d rows) where
     pub few_entered : count + length Path ≤ met_rows Letters
     few_entered = omega (arith, few, fresh, length_push path t, sum_by-set (λ x. min x 1) letters t 1 0 (omega (arith, e.letters_size, b)))
 
+    pub listed_entered : (order : List ℕ) → length order + length path ≡ met_rows letters → length order + length Path ≡ met_rows Letters
+    listed_entered order h = omega (arith, h, fresh, length_push path t, sum_by-set (λ x. min x 1) letters t 1 0 (omega (arith, e.letters_size, b)))
+
     pub work_entered : sum_by (λ x. d + 1 - x) Letters + length Walk ≤ sum_by (λ x. d + 1 - x) letters + length walk
     work_entered = omega (arith, fresh, length_push walk (length path), sum_by-set (λ x. d + 1 - x) letters t 1 0 (omega (arith, e.letters_size, b)))
 
@@ -348,6 +355,9 @@ module _ (d : ℕ) (rows : List Row) (m : IsMinimal d rows) where
 
     pub few_looked : count + length path ≤ met_rows Looked
     few_looked = omega (arith, few, has, least, sum_by-set (λ x. min x 1) letters r (x + 1) 0 row_r)
+
+    pub listed_looked : (order : List ℕ) → length order + length path ≡ met_rows letters → length order + length path ≡ met_rows Looked
+    listed_looked order h = omega (arith, h, has, least, sum_by-set (λ x. min x 1) letters r (x + 1) 0 row_r)
 
     pub work_looked : sum_by (λ x. d + 1 - x) Looked < sum_by (λ x. d + 1 - x) letters
     work_looked = omega (arith, has, most, sum_by-set (λ x. d + 1 - x) letters r (x + 1) 0 row_r)
@@ -571,10 +581,13 @@ module _ (d : ℕ) (rows : List Row) (m : IsMinimal d rows) where
     pub few_finished : count + 1 + length Left ≤ met_rows letters
     few_finished = omega (arith, few, size, begin)
 
+    pub listed_finished : length order + length path ≡ met_rows letters → length order' + length Left ≡ met_rows letters
+    listed_finished h = omega (arith, h, size, begin, n.longer)
+
   -- ---- the end
   pub all_numbered : (path bounds walk places numbers letters order : List ℕ) (count : ℕ) → length walk ≡ 0 → IsPath (length rows) path places → AreKnots d rows path bounds → IsWalk d path bounds walk letters → AreMet d (length rows) path places numbers letters count
-      → AreNumbered d rows numbers order count → count + length path ≤ met_rows letters → 1 ≤ get_or letters 0 0 → AreComponents d rows numbers × AreInOrder (length rows) numbers order
-  all_numbered path bounds walk places numbers letters order count none p k o e a few begun = (
+      → AreNumbered d rows numbers order count → count + length path ≤ met_rows letters → length order + length path ≡ met_rows letters → 1 ≤ get_or letters 0 0 → AreComponents d rows numbers × AreInOrder (length rows) numbers order
+  all_numbered path bounds walk places numbers letters order count none p k o e a few listed begun = (
     record {
       count = e.numbers_size;
       small = λ s l. omega (arith, every s l, few, met_rows-le letters, e.letters_size);
@@ -582,6 +595,7 @@ module _ (d : ℕ) (rows : List Row) (m : IsMinimal d rows) where
       joined = λ s t l b f. a.joined s t l b (every s l) f;
     },
     record {
+      count = omega (arith, listed, no_path, met_rows-all letters met, e.letters_size);
       below = λ i l. (a.ordered i l).0;
       whole = λ s l. a.whole s l (every s l);
       rising = a.rising;
@@ -606,6 +620,14 @@ module _ (d : ℕ) (rows : List Row) (m : IsMinimal d rows) where
 
       every : (s : ℕ) → s < length rows → get_or numbers s 0 < count
       every s l = let w = m.reached s l in rw w.2 at (along 0 w.0 m.machine.least w.1 first)
+
+      met : (u : ℕ) → u < length letters → 1 ≤ get_or letters u 0
+      met u l =
+          let b : u < length rows = omega (arith, l, e.letters_size) in
+          elim (e.cases u b) [
+            | inl y ↦ absurd (omega (arith, y.2, every u b, few, met_rows-le letters, e.letters_size, m.small))
+            | inr y ↦ elim y [ inl z ↦ z.0 | inr z ↦ z.0 ]
+          ]
 
   -- ---- the last row of the walk
   pub walk_place : (path bounds walk letters : List ℕ) → IsWalk d path bounds walk letters → 0 < length walk → last_of walk < length path

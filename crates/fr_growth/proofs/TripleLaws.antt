@@ -50,6 +50,79 @@ parts-prefix : (p x y : List ℕ) → parts x y → parts (p ++ x) (p ++ y)
 parts-prefix [] x y h = h
 parts-prefix (a ∷ p) x y h = inr (refl, parts-prefix p x y h)
 
+-- ---- a row with the least two words of one length back to it
+module _ (d : ℕ) (rows : List Row) (m : IsMinimal d rows) (moving : List ℕ) (v : AreMoving rows moving) where
+  reds : IsReduced d (states_of rows) (unmarked moving)
+  reds = reduced_rows d rows moving m v
+
+  zero_at : IsAt d (states_of rows) (unmarked moving) reds (row_term rows 0) 0
+  zero_at = record { below = rw length-states_of m.machine.least; alike = alike_refl (row_term rows 0) }
+
+  module _ (at : List ℕ) (valid : IsWord d at) (home : List Bool) (hm : IsOnly (length rows) (state_after (states_of rows) 0 at) home) where
+    at_below : state_after (states_of rows) 0 at < length rows
+    at_below = after_row d rows m.machine 0 at m.machine.least
+
+    home_word : (x : List ℕ) → IsWord d x → state_after (states_of rows) (state_after (states_of rows) 0 at) x ≡ state_after (states_of rows) 0 at → IsGoalWord d rows home (state_after (states_of rows) 0 at) x
+    home_word x k e = record { valid = k; there = ap (is_marked home) e ∙ hm.right (state_after (states_of rows) 0 at) at_below ∙ eq-eqb (state_after (states_of rows) 0 at) (state_after (states_of rows) 0 at) refl }
+
+    word_home : (x : List ℕ) → IsGoalWord d rows home (state_after (states_of rows) 0 at) x → state_after (states_of rows) (state_after (states_of rows) 0 at) x ≡ state_after (states_of rows) 0 at
+    word_home x g =
+        let q = state_after (states_of rows) (state_after (states_of rows) 0 at) x in
+        eqb-true q (state_after (states_of rows) 0 at) (sym (hm.right q (after_row d rows m.machine (state_after (states_of rows) 0 at) x at_below)) ∙ g.there)
+
+    here_at : IsAt d (states_of rows) (unmarked moving) reds (Section (row_term rows 0) at) (state_after (states_of rows) 0 at)
+    here_at = at_section d (states_of rows) (unmarked moving) reds (row_term rows 0) 0 at zero_at valid
+
+    module _ (live : unmarked moving (state_after (states_of rows) 0 at) ≡ false) (u w : List ℕ) (lp : IsLeastPair d rows home (state_after (states_of rows) 0 at) u w) where
+      back_alike : (x : List ℕ) → IsWord d x → state_after (states_of rows) (state_after (states_of rows) 0 at) x ≡ state_after (states_of rows) 0 at → IsAlike (Section (Section (row_term rows 0) at) x) (Section (row_term rows 0) at)
+      back_alike x k e = same_term d (states_of rows) (unmarked moving) reds (Section (Section (row_term rows 0) at) x) (Section (row_term rows 0) at) (state_after (states_of rows) (state_after (states_of rows) 0 at) x) (state_after (states_of rows) 0 at)
+          (at_section d (states_of rows) (unmarked moving) reds (Section (row_term rows 0) at) (state_after (states_of rows) 0 at) x here_at k) here_at e
+
+      alike_back : (x : List ℕ) → IsWord d x → IsAlike (Section (Section (row_term rows 0) at) x) (Section (row_term rows 0) at) → state_after (states_of rows) (state_after (states_of rows) 0 at) x ≡ state_after (states_of rows) 0 at
+      alike_back x k e = same_state d (states_of rows) (unmarked moving) reds (Section (Section (row_term rows 0) at) x) (Section (row_term rows 0) at) (state_after (states_of rows) (state_after (states_of rows) 0 at) x) (state_after (states_of rows) 0 at)
+          (at_section d (states_of rows) (unmarked moving) reds (Section (row_term rows 0) at) (state_after (states_of rows) 0 at) x here_at k) here_at e
+
+      pub triple_at : IsExponentialAt d (row_term rows 0) at u w
+      triple_at = record {
+        at_valid = valid;
+        u_valid = lp.first.valid;
+        v_valid = lp.second.valid;
+        moved = live_moves d (states_of rows) (unmarked moving) reds (Section (row_term rows 0) at) (state_after (states_of rows) 0 at) here_at live;
+        differ = λ e. shortlex_irrefl w (inr (refl, rw e at lp.ordered));
+        one_length = lp.one_length;
+        u_back = back_alike u lp.first.valid (word_home u lp.first);
+        v_back = back_alike w lp.second.valid (word_home w lp.second);
+      }
+
+      pub triple_tells : HasExponentialNumbers d (row_term rows 0) at u
+      triple_tells = exponential_numbers d (states_of rows) (unmarked moving) reds (row_term rows 0) 0 at u w zero_at triple_at
+
+      pub least_triple_from : ((z x y : List ℕ) → IsShortlexBefore z at → IsExponentialAt d (row_term rows 0) z x y → ⊥) → IsLeastTriple d (row_term rows 0) at u w
+      least_triple_from before = record {
+        triple = triple_at;
+        least_at = before;
+        least_length = λ x y l q.
+            omega (arith, l, lp.least x y (home_word x q.u_valid (alike_back x q.u_valid q.u_back)) (home_word y q.v_valid (alike_back y q.v_valid q.v_back)) q.differ q.one_length);
+        ordered = inr (lp.one_length, lp.ordered);
+        first_two = λ x k e alike. elim (lp.first_two x (home_word x k (alike_back x k alike)) e) as (λ _. (x ≡ u) ⊎ ((x ≡ w) ⊎ IsShortlexBefore w x)) [
+          | inl z ↦ inl z
+          | inr z ↦ inr (elim z [ inl y ↦ inl y | inr y ↦ inr (inr (sym lp.one_length ∙ sym e, y)) ])
+        ];
+      }
+
+-- nothing stands before the empty word
+none_before : (z : List ℕ) → IsShortlexBefore z [] → ⊥
+none_before [] h = shortlex_irrefl [] h
+none_before (x ∷ z) (inl l) = absurd (omega (arith, l))
+none_before (x ∷ z) (inr h) = absurd (omega (arith, h.0))
+
+module _ (d : ℕ) (rows : List Row) (m : IsMinimal d rows) (moving : List ℕ) (v : AreMoving rows moving) (live : get_or moving 0 0 ≢ 0) (home : List Bool) (hm : IsOnly (length rows) 0 home) (u w : List ℕ) (lp : IsLeastPair d rows home 0 u w) where
+  pub triple_here : IsLeastTriple d (row_term rows 0) [] u w
+  triple_here = least_triple_from d rows m moving v [] tt home hm (ne_eqb (get_or moving 0 0) 0 live) u w lp (λ z x y l q. none_before z l)
+
+  pub numbers_here : HasExponentialNumbers d (row_term rows 0) [] u
+  numbers_here = triple_tells d rows m moving v [] tt home hm (ne_eqb (get_or moving 0 0) 0 live) u w lp
+
 module _ (d : ℕ) (rows : List Row) (m : IsMinimal d rows) (moving : List ℕ) (v : AreMoving rows moving) (numbers : List ℕ) (a : AreComponents d rows numbers) (returns : List ℕ) (t : AreReturns d rows moving numbers returns) where
   -- a row from which a word leads to one that moves moves
   live_back : (s : ℕ) (w : List ℕ) → s < length rows → IsWord d w → unmarked moving (state_after (states_of rows) s w) ≡ false → unmarked moving s ≡ false
@@ -159,16 +232,8 @@ module _ (d : ℕ) (rows : List Row) (m : IsMinimal d rows) (moving : List ℕ) 
       two = two_words (state_after (states_of rows) 0 at) b ((dm.right (state_after (states_of rows) 0 at) b).0 la.word.there)
 
       module _ (home : List Bool) (hm : IsOnly (length rows) (state_after (states_of rows) 0 at) home) where
-        home_word : (x : List ℕ) → IsWord d x → state_after (states_of rows) (state_after (states_of rows) 0 at) x ≡ state_after (states_of rows) 0 at → IsGoalWord d rows home (state_after (states_of rows) 0 at) x
-        home_word x k e = record { valid = k; there = ap (is_marked home) e ∙ hm.right (state_after (states_of rows) 0 at) b ∙ eq-eqb (state_after (states_of rows) 0 at) (state_after (states_of rows) 0 at) refl }
-
-        word_home : (x : List ℕ) → IsGoalWord d rows home (state_after (states_of rows) 0 at) x → state_after (states_of rows) (state_after (states_of rows) 0 at) x ≡ state_after (states_of rows) 0 at
-        word_home x g =
-            let q = state_after (states_of rows) (state_after (states_of rows) 0 at) x in
-            eqb-true q (state_after (states_of rows) 0 at) (sym (hm.right q (after_row d rows m.machine (state_after (states_of rows) 0 at) x b)) ∙ g.there)
-
         pub back_enough : (x : List ℕ) × (y : List ℕ) × IsGoalWord d rows home (state_after (states_of rows) 0 at) x × IsGoalWord d rows home (state_after (states_of rows) 0 at) y × (x ≢ y) × (length x ≡ length y) × (length x ≤ 4096)
-        back_enough = (two.x, two.y, home_word two.x two.x_valid two.x_back, home_word two.y two.y_valid two.y_back, parted two.x two.y two.apart, two.one_length, two.most)
+        back_enough = (two.x, two.y, home_word d rows m moving v at la.word.valid home hm two.x two.x_valid two.x_back, home_word d rows m moving v at la.word.valid home hm two.y two.y_valid two.y_back, parted two.x two.y two.apart, two.one_length, two.most)
           where
             parted : (x y : List ℕ) → parts x y → x ≢ y
             parted [] y p = absurd p
@@ -182,59 +247,19 @@ module _ (d : ℕ) (rows : List Row) (m : IsMinimal d rows) (moving : List ℕ) 
                 tails : ◌≡◌ {A = List ℕ} (x ∷ xs) (y ∷ ys) → xs ≡ ys
                 tails e = cc
 
-        module _ (u w : List ℕ) (lp : IsLeastPair d rows home (state_after (states_of rows) 0 at) u w) where
-          reds : IsReduced d (states_of rows) (unmarked moving)
-          reds = reduced_rows d rows moving m v
+      -- another triple begins with a word to a doubling row
+      other_goal : (z x y : List ℕ) → IsExponentialAt d (row_term rows 0) z x y → IsGoalWord d rows goals 0 z
+      other_goal z x y q =
+          let k = state_after (states_of rows) 0 z in
+          let c = at_section d (states_of rows) (unmarked moving) (reds d rows m moving v) (row_term rows 0) 0 z (zero_at d rows m moving v) q.at_valid in
+          let xx = same_state d (states_of rows) (unmarked moving) (reds d rows m moving v) (Section (Section (row_term rows 0) z) x) (Section (row_term rows 0) z) (state_after (states_of rows) k x) k (at_section d (states_of rows) (unmarked moving) (reds d rows m moving v) (Section (row_term rows 0) z) k x c q.u_valid) c q.u_back in
+          let yy = same_state d (states_of rows) (unmarked moving) (reds d rows m moving v) (Section (Section (row_term rows 0) z) y) (Section (row_term rows 0) z) (state_after (states_of rows) k y) k (at_section d (states_of rows) (unmarked moving) (reds d rows m moving v) (Section (row_term rows 0) z) k y c q.v_valid) c q.v_back in
+          let live = moves_live d (states_of rows) (unmarked moving) (reds d rows m moving v) (Section (row_term rows 0) z) k c q.moved in
+          let kb = after_row d rows m.machine 0 z m.machine.least in
+          record { valid = q.at_valid; there = (dm.right k kb).1 (doubles_from k x y kb live q.u_valid q.v_valid xx yy (parts_from_length x y q.one_length q.differ)) }
 
-          zero_at : IsAt d (states_of rows) (unmarked moving) reds (row_term rows 0) 0
-          zero_at = record { below = rw length-states_of m.machine.least; alike = alike_refl (row_term rows 0) }
+      pub least_triple : (home : List Bool) → IsOnly (length rows) (state_after (states_of rows) 0 at) home → (u w : List ℕ) → IsLeastPair d rows home (state_after (states_of rows) 0 at) u w → IsLeastTriple d (row_term rows 0) at u w
+      least_triple home hm u w lp = least_triple_from d rows m moving v at la.word.valid home hm two.live u w lp (λ z x y l q. la.least z (other_goal z x y q) l)
 
-          here_at : IsAt d (states_of rows) (unmarked moving) reds (Section (row_term rows 0) at) (state_after (states_of rows) 0 at)
-          here_at = at_section d (states_of rows) (unmarked moving) reds (row_term rows 0) 0 at zero_at la.word.valid
-
-          back_alike : (x : List ℕ) → IsWord d x → state_after (states_of rows) (state_after (states_of rows) 0 at) x ≡ state_after (states_of rows) 0 at → IsAlike (Section (Section (row_term rows 0) at) x) (Section (row_term rows 0) at)
-          back_alike x k e = same_term d (states_of rows) (unmarked moving) reds (Section (Section (row_term rows 0) at) x) (Section (row_term rows 0) at) (state_after (states_of rows) (state_after (states_of rows) 0 at) x) (state_after (states_of rows) 0 at)
-              (at_section d (states_of rows) (unmarked moving) reds (Section (row_term rows 0) at) (state_after (states_of rows) 0 at) x here_at k) here_at e
-
-          alike_back : (x : List ℕ) → IsWord d x → IsAlike (Section (Section (row_term rows 0) at) x) (Section (row_term rows 0) at) → state_after (states_of rows) (state_after (states_of rows) 0 at) x ≡ state_after (states_of rows) 0 at
-          alike_back x k e = same_state d (states_of rows) (unmarked moving) reds (Section (Section (row_term rows 0) at) x) (Section (row_term rows 0) at) (state_after (states_of rows) (state_after (states_of rows) 0 at) x) (state_after (states_of rows) 0 at)
-              (at_section d (states_of rows) (unmarked moving) reds (Section (row_term rows 0) at) (state_after (states_of rows) 0 at) x here_at k) here_at e
-
-          pub triple_at : IsExponentialAt d (row_term rows 0) at u w
-          triple_at = record {
-            at_valid = la.word.valid;
-            u_valid = lp.first.valid;
-            v_valid = lp.second.valid;
-            moved = live_moves d (states_of rows) (unmarked moving) reds (Section (row_term rows 0) at) (state_after (states_of rows) 0 at) here_at two.live;
-            differ = λ e. shortlex_irrefl w (inr (refl, rw e at lp.ordered));
-            one_length = lp.one_length;
-            u_back = back_alike u lp.first.valid (word_home u lp.first);
-            v_back = back_alike w lp.second.valid (word_home w lp.second);
-          }
-
-          pub triple_tells : HasExponentialNumbers d (row_term rows 0) at u
-          triple_tells = exponential_numbers d (states_of rows) (unmarked moving) reds (row_term rows 0) 0 at u w zero_at triple_at
-
-          -- another triple begins with a word to a doubling row
-          other_goal : (z x y : List ℕ) → IsExponentialAt d (row_term rows 0) z x y → IsGoalWord d rows goals 0 z
-          other_goal z x y q =
-              let k = state_after (states_of rows) 0 z in
-              let c = at_section d (states_of rows) (unmarked moving) reds (row_term rows 0) 0 z zero_at q.at_valid in
-              let xx = same_state d (states_of rows) (unmarked moving) reds (Section (Section (row_term rows 0) z) x) (Section (row_term rows 0) z) (state_after (states_of rows) k x) k (at_section d (states_of rows) (unmarked moving) reds (Section (row_term rows 0) z) k x c q.u_valid) c q.u_back in
-              let yy = same_state d (states_of rows) (unmarked moving) reds (Section (Section (row_term rows 0) z) y) (Section (row_term rows 0) z) (state_after (states_of rows) k y) k (at_section d (states_of rows) (unmarked moving) reds (Section (row_term rows 0) z) k y c q.v_valid) c q.v_back in
-              let live = moves_live d (states_of rows) (unmarked moving) reds (Section (row_term rows 0) z) k c q.moved in
-              let kb = after_row d rows m.machine 0 z m.machine.least in
-              record { valid = q.at_valid; there = (dm.right k kb).1 (doubles_from k x y kb live q.u_valid q.v_valid xx yy (parts_from_length x y q.one_length q.differ)) }
-
-          pub least_triple : IsLeastTriple d (row_term rows 0) at u w
-          least_triple = record {
-            triple = triple_at;
-            least_at = λ z x y l q. la.least z (other_goal z x y q) l;
-            least_length = λ x y l q.
-                omega (arith, l, lp.least x y (home_word x q.u_valid (alike_back x q.u_valid q.u_back)) (home_word y q.v_valid (alike_back y q.v_valid q.v_back)) q.differ q.one_length);
-            ordered = inr (lp.one_length, lp.ordered);
-            first_two = λ x k e alike. elim (lp.first_two x (home_word x k (alike_back x k alike)) e) as (λ _. (x ≡ u) ⊎ ((x ≡ w) ⊎ IsShortlexBefore w x)) [
-              | inl z ↦ inl z
-              | inr z ↦ inr (elim z [ inl y ↦ inl y | inr y ↦ inr (inr (sym lp.one_length ∙ sym e, y)) ])
-            ];
-          }
+      pub least_numbers : (home : List Bool) → IsOnly (length rows) (state_after (states_of rows) 0 at) home → (u w : List ℕ) → IsLeastPair d rows home (state_after (states_of rows) 0 at) u w → HasExponentialNumbers d (row_term rows 0) at u
+      least_numbers home hm u w lp = triple_tells d rows m moving v at la.word.valid home hm two.live u w lp

@@ -13,8 +13,9 @@ pub record AreComponents (d : ℕ) (rows : List Row) (numbers : List ℕ) : Type
   pub falls : (s x : ℕ) → s < length rows → IsLetter d x → slice_index numbers (next_state (states_of rows) s x) ≤ slice_index numbers s
   pub joined : (s t : ℕ) → s < length rows → t < length rows → slice_index numbers s ≡ slice_index numbers t → IsReached d (states_of rows) s t
 
--- all rows, component after component
+-- all rows, each once, component after component
 pub record AreInOrder (n : ℕ) (numbers order : List ℕ) : Type 0 where
+  pub count : length order ≡ n
   pub below : (i : ℕ) → i < length order → slice_index order i < n
   pub whole : (s : ℕ) → s < n → (i : ℕ) × (i < length order) × (slice_index order i ≡ s)
   pub rising : (i j : ℕ) → i < j → j < length order → slice_index numbers (slice_index order i) ≤ slice_index numbers (slice_index order j)

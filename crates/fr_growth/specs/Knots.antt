@@ -94,6 +94,7 @@ pub record IsDescent (d : ℕ) (rows : List Row) (descent : Descent) : Type 0 wh
   pub looked : AreLooked d rows descent.path.items descent.bounds.items descent.places.items descent.numbers.items descent.letters.items descent.count
   pub numbered : AreNumbered d rows descent.numbers.items descent.order.items descent.count
   pub few : descent.count + length descent.path.items ≤ met_rows descent.letters.items
+  pub listed : length descent.order.items + length descent.path.items ≡ met_rows descent.letters.items
 
 -- what is left to do: each letter of each row is looked at once, and each row is left once
 abbrev pub work : ℕ → Descent → ℕ

@@ -1,6 +1,6 @@
 //! The class of growth of an element.
 
-ghost use Rattle.std.specs.Prelude.{◌≡◌, ℕ, ◌<◌, ◌≤◌, IfOk, length, slice_index};
+ghost use Rattle.std.specs.Prelude.{◌≡◌, ℕ, ◌<◌, ◌≤◌, IfOk, IfSome, length, slice_index};
 ghost use Rattle.fr_machine.specs.Rows.{row_term};
 ghost use Rattle.fr_growth.specs.Components.{AreComponents, AreInOrder};
 ghost use Rattle.fr_growth.specs.Levels.{AreMoving, AreReturns};
@@ -9,7 +9,7 @@ ghost use Rattle.fr_growth.specs.Classes.{IsClass, HasNumbers};
 use crate::chaining::find_chain;
 use crate::growth_class::Class;
 use crate::knots::{Components, find_components};
-use crate::least::{least_pair, least_word};
+use crate::least::{least_pair, least_word, short_pair};
 use crate::leveling::find_levels;
 use crate::marking::{doubling_rows, one_row};
 use crate::rows::{moving_rows, returns};
@@ -30,13 +30,38 @@ pub fn class(alloc: Global, m: &Minimal) -> Result<Class, NoMemory>
     ensures numbers { IfOk result (λ c. HasNumbers m.now.alphabet (length m.now.rows) (row_term m.now.rows 0) c) }
 {
     let _known = m.machine();
-    let components = find_components(alloc, m)?;
     let moving = moving_rows(alloc, m)?;
+    if let Some(class) = short_triple(alloc, m, &moving)? {
+        return Ok(class);
+    }
+    let components = find_components(alloc, m)?;
     let returns = returns(alloc, m, &moving, &components.numbers)?;
     if returns.iter().any(|count| *count > 1) {
         return triple(alloc, m, &moving, &components.numbers, &returns);
     }
     tame(alloc, m, &moving, &components, &returns)
+}
+
+// The least triple, where the first row has it and it is soon found, which takes no components. The answer `None` says only
+// that the search was given up.
+fn short_triple(alloc: Global, m: &Minimal, moving: &[u8]) -> Result<Option<Class>, NoMemory>
+    requires moving { AreMoving m.now.rows moving.now }
+    ensures class { IfOk result (λ o. IfSome o (λ c. IsClass m.now.alphabet (row_term m.now.rows 0) c)) }
+    ensures numbers { IfOk result (λ o. IfSome o (λ c. HasNumbers m.now.alphabet (length m.now.rows) (row_term m.now.rows 0) c)) }
+{
+    let _known = m.machine();
+    if moving[0] == 0 {
+        return Ok(None);
+    }
+    let home = one_row(alloc, m.size(), 0)?;
+    match short_pair(alloc, m, &home, 0)? {
+        Some(backs) => Ok(Some(Class::Exponential {
+            at: Word::of_letters(Vec::new(alloc)),
+            u: Word::of_letters(backs.first),
+            v: Word::of_letters(backs.second),
+        })),
+        None => Ok(None),
+    }
 }
 
 // The class of a machine in which no row that moves stays in its component at two letters.

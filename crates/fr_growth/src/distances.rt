@@ -1,6 +1,6 @@
 //! How far rows are from a row.
 
-ghost use Rattle.std.specs.Prelude.{◌≡◌, ℕ, ◌<◌, IfOk, OnOk, length, slice_index};
+ghost use Rattle.std.specs.Prelude.{◌≡◌, ℕ, ◌<◌, IfOk, IfSome, OnOk, length, slice_index};
 ghost use Rattle.fr_growth.specs.Distances.{IsSearch, IsMet, AreDistances};
 
 use crate::bits::{BitRow, has, put};
@@ -32,6 +32,30 @@ pub fn find_distances(alloc: Global, m: &Minimal, from: u16) -> Result<Distances
         place += 1;
     }
     Ok(distances)
+}
+
+/// The distances from a row, where it has no row farther than so many letters. The answer `None` says only that the search
+/// was given up. The only error is want of memory.
+pub fn find_near_distances(
+    alloc: Global,
+    m: &Minimal,
+    from: u16,
+    most: u16,
+) -> Result<Option<Distances>, NoMemory>
+    requires { from < length m.now.rows }
+    ensures { IfOk result (λ o. IfSome o (λ r. AreDistances m.now.alphabet m.now.rows from r.rows.items r.values.items)) }
+{
+    let _known = m.machine();
+    let mut distances = Distances::new(alloc, m, from)?;
+    let mut place = 0;
+    while place < distances.rows.len() {
+        if distances.values[distances.rows[place] as usize] > most {
+            return Ok(None);
+        }
+        distances.go_on(m, place, from)?;
+        place += 1;
+    }
+    Ok(Some(distances))
 }
 
 impl Distances {

@@ -12,6 +12,7 @@ use crate::edges::Edges;
 use fr_alphabet::NoMemory;
 use fr_machine::Minimal;
 use std::alloc::Global;
+use std::mem::swap;
 
 /// The rows from which words of one length lead to a goal.
 #[derive(Drop)]
@@ -40,7 +41,8 @@ impl Layer {
     // The goals, which are the rows with the empty word.
     fn of_goals(alloc: Global, goals: &[bool]) -> Result<Layer, NoMemory>
         requires { length goals.now ≤ 1024 }
-        ensures { IfOk result (λ l. AreGoals goals.now l.set l.rows.items) }
+        ensures goals { IfOk result (λ l. AreGoals goals.now l.set l.rows.items) }
+        ensures letters { IfOk result (λ l. length l.letters.items ≡ length goals.now) }
     {
         let mut layer = Layer::new(alloc, goals.len())?;
         for s in 0..goals.len() {
@@ -49,6 +51,16 @@ impl Layer {
             }
         }
         Ok(layer)
+    }
+
+    // Lets all rows go, and keeps their room.
+    fn clear(&mut self)
+        ensures set { (u : ℕ) → u < 1024 → has_bit self.new.set u ≡ false }
+        ensures rows { self.new.rows.items ≡ [] }
+        ensures letters { length self.new.letters.items ≡ length self.old.letters.items }
+    {
+        self.set = [0; 16];
+        self.rows.clear();
     }
 
     // Enters a row with the first letter of a word. The answer is whether the row is there already, with another letter.
@@ -88,14 +100,14 @@ pub fn find_layers(
 {
     let _known = m.machine();
     let mut layer = Layer::of_goals(alloc, goals)?;
+    let mut next = Layer::new(alloc, goals.len())?;
     let mut sets = Vec::new(alloc);
     sets.push(layer.set)?;
     let mut bound = most;
     let mut long = 0u16;
     while long < bound {
         long += 1;
-        layer = layer_before(
-            alloc,
+        layer_before(
             m,
             from,
             goals,
@@ -103,17 +115,18 @@ pub fn find_layers(
             edges,
             &layer.rows,
             long,
+            &mut next,
             &mut bound,
         )?;
-        sets.push(layer.set)?;
+        sets.push(next.set)?;
+        swap(&mut layer, &mut next);
     }
     Ok(sets)
 }
 
-// The layer of the words with one letter more than those of these rows. The bound comes down to the least length in which
-// a row of the layer makes two words.
+// Makes the layer of the words with one letter more than those of these rows, in the room of another. The bound comes down
+// to the least length in which a row of the layer makes two words.
 fn layer_before(
-    alloc: Global,
     m: &Minimal,
     from: u16,
     goals: &[bool],
@@ -121,25 +134,27 @@ fn layer_before(
     edges: &Edges,
     rows: &[u16],
     long: u16,
+    layer: &mut Layer,
     bound: &mut u16,
-) -> Result<Layer, NoMemory>
+) -> Result<(), NoMemory>
     requires distances { AreDistances m.now.alphabet m.now.rows from distances.now.rows.items distances.now.values.items }
     requires edges { AreEdges m.now.alphabet m.now.rows distances.now.rows.items distances.now.values.items edges.now.list.items edges.now.latest.items }
     requires long { 1 ≤ long }
     requires rows { AreWithWords m.now.alphabet m.now.rows goals.now rows.now (long - 1) }
     requires bound { long ≤ bound.old }
     requires most { bound.old ≤ 4096 }
-    ensures lowered { IfOk result (λ l. IsLowered m.now.alphabet m.now.rows goals.now from long bound.old bound.new) }
-    ensures layer { IfOk result (λ l. IsPart m.now.alphabet m.now.rows goals.now distances.now.values.items edges.now.list.items long (λ e. IsToFirst m.now.rows edges.now.list.items rows.now (length rows.now) e) l.set l.rows.items l.letters.items bound.new) }
+    requires letters { length layer.old.letters.items ≡ length m.now.rows }
+    ensures lowered { OnOk result (IsLowered m.now.alphabet m.now.rows goals.now from long bound.old bound.new) }
+    ensures layer { OnOk result (IsPart m.now.alphabet m.now.rows goals.now distances.now.values.items edges.now.list.items long (λ e. IsToFirst m.now.rows edges.now.list.items rows.now (length rows.now) e) layer.new.set layer.new.rows.items layer.new.letters.items bound.new) }
 {
     let _known = m.machine();
-    let mut layer = Layer::new(alloc, m.size() as usize)?;
+    layer.clear();
     for place in 0..rows.len() {
         enter_before(
-            m, from, goals, distances, edges, rows, place, long, &mut layer, bound,
+            m, from, goals, distances, edges, rows, place, long, layer, bound,
         )?;
     }
-    Ok(layer)
+    Ok(())
 }
 
 // Enters the rows from which an edge leads to the row at a place.

@@ -1,11 +1,11 @@
 //! The least words that lead from a row to others.
 
-ghost use Rattle.std.specs.Prelude.{◌≡◌, ◌≢◌, ℕ, ◌+◌, ◌-◌, ◌<◌, ◌≤◌, MatchOption, IfOk, OnOk, List, length};
+ghost use Rattle.std.specs.Prelude.{◌≡◌, ◌≢◌, ℕ, ◌+◌, ◌-◌, ◌<◌, ◌≤◌, MatchOption, IfOk, IfSome, OnOk, List, length};
 ghost use Rattle.fr_growth.specs.Distances.{AreDistances};
-ghost use Rattle.fr_growth.specs.Layers.{IsGoalWord, IsLeastWord, IsLeastPair, HasWord, HasPair, AreSound, IsExact, IsLeastLetter, IsNoLetter, IsExtended, IsFirstWord, IsLastBranch, IsNearest, IsSecondWord};
+ghost use Rattle.fr_growth.specs.Layers.{IsGoalWord, IsLeastWord, IsLeastPair, HasWord, HasPair, AreFound, AreSound, IsExact, IsLeastLetter, IsNoLetter, IsExtended, IsFirstWord, IsLastBranch, IsNearest, IsSecondWord};
 
 use crate::bits::{BitRow, has};
-use crate::distances::{Distances, find_distances};
+use crate::distances::{Distances, find_distances, find_near_distances};
 use crate::edges::find_edges;
 use crate::layers::find_layers;
 use fr_alphabet::NoMemory;
@@ -14,6 +14,10 @@ use std::alloc::Global;
 
 // The most letters of a word.
 const LONGEST: u16 = 4096;
+
+// The most letters of a word that is soon found. Where rows lead to others without order, 1,024 of them lie within about 20
+// letters.
+const SHORT: u16 = 32;
 
 /// Two words.
 #[derive(Drop)]
@@ -73,9 +77,54 @@ pub fn least_pair(alloc: Global, m: &Minimal, goals: &[bool], from: u16) -> Resu
     let distances = find_distances(alloc, m, from)?;
     let edges = find_edges(alloc, m, &distances, from)?;
     let sets = find_layers(alloc, m, from, goals, &distances, &edges, LONGEST)?;
+    read_pair(alloc, m, goals, &sets, from)
+}
+
+/// The same pair, where it is soon found: all rows are near, and the words are short. The answer `None` says only that the
+/// search was given up. The only error is want of memory.
+pub fn short_pair(
+    alloc: Global,
+    m: &Minimal,
+    goals: &[bool],
+    from: u16,
+) -> Result<Option<Pair>, NoMemory>
+    requires row { from < length m.now.rows }
+    requires goals { length goals.now ≡ length m.now.rows }
+    ensures pair { IfOk result (λ o. IfSome o (λ p. IsLeastPair m.now.alphabet m.now.rows goals.now from p.first.items p.second.items)) }
+    ensures most { IfOk result (λ o. IfSome o (λ p. length p.first.items ≤ 4096)) }
+{
+    let _known = m.machine();
+    let most = SHORT.min(2 * m.size());
+    match find_near_distances(alloc, m, from, most)? {
+        Some(distances) => {
+            let edges = find_edges(alloc, m, &distances, from)?;
+            let sets = find_layers(alloc, m, from, goals, &distances, &edges, most)?;
+            if sets.len() > most as usize {
+                return Ok(None);
+            }
+            Ok(Some(read_pair(alloc, m, goals, &sets, from)?))
+        }
+        None => Ok(None),
+    }
+}
+
+// The pair of words of the last of these lengths, which is the least that has two.
+fn read_pair(
+    alloc: Global,
+    m: &Minimal,
+    goals: &[bool],
+    sets: &[BitRow],
+    from: u16,
+) -> Result<Pair, NoMemory>
+    requires row { from < length m.now.rows }
+    requires found { (most : ℕ) × (most ≤ 4096) × AreFound m.now.alphabet m.now.rows goals.now from most sets.now }
+    requires some { HasPair m.now.alphabet m.now.rows goals.now from (length sets.now - 1) }
+    ensures pair { IfOk result (λ p. IsLeastPair m.now.alphabet m.now.rows goals.now from p.first.items p.second.items) }
+    ensures most { IfOk result (λ p. length p.first.items ≤ 4096) }
+{
     let mut first = Vec::with_capacity(alloc, sets.len())?;
-    extend(m, goals, &sets, from, sets.len() - 1, &mut first)?;
-    let second = second_word(alloc, m, goals, &sets, from, &first)?;
+    extend(m, goals, sets, from, sets.len() - 1, &mut first)?;
+    let second = second_word(alloc, m, goals, sets, from, &first)?;
     Ok(Pair::of(first, second))
 }
 

@@ -4,7 +4,7 @@ use Rattle.fr_model.specs.Automata.{state_after}
 use Rattle.fr_alphabet.proofs.Readings.{IsWord-weaker}
 use Rattle.fr_growth.specs.Doubling.{AreDoubling, IsOnly}
 use Rattle.fr_growth.specs.Layers.{IsLeastWord, IsLeastPair}
-use Rattle.fr_growth.proofs.TripleLaws.{at_enough, back_enough, least_triple, triple_tells}
+use Rattle.fr_growth.proofs.TripleLaws.{at_enough, back_enough, least_triple, least_numbers}
 use Rattle.fr_growth.proofs.classing.triple.Goals as goal
 
 pub least_word-requires-clause-some : goal.least_word-requires-clause-some
@@ -63,4 +63,4 @@ returns-clause-numbers c =
     let h : c.section-h.result ≡ state_after (states_of rows) 0 letters = rw (c.machine-machine.ensures.value, c.of_letters-at.ensures) at c.section-h.ensures.place in
     let hm : IsOnly (length rows) (state_after (states_of rows) 0 letters) c.in_ok-home.home.items = rw (c.size-n.ensures, h) at c.in_ok-home.ensures in
     let lp : IsLeastPair c.args.m.now.alphabet rows c.in_ok-home.home.items (state_after (states_of rows) 0 letters) c.in_ok-backs.backs.first.items c.in_ok-backs.backs.second.items = rw (c.deref-2.ensures.value, h) at c.in_ok-backs.ensures.pair in
-    rw (c.of_letters-at.ensures, c.of_letters.ensures) (triple_tells c.args.m.now.alphabet c.args.m.now.rows m c.args.moving.now c.requires.moving c.args.numbers.now c.requires.numbers c.args.returns.now c.requires.returns c.in_ok-doubling.doubling.items dm letters la c.in_ok-home.home.items hm c.in_ok-backs.backs.first.items c.in_ok-backs.backs.second.items lp)
+    rw (c.of_letters-at.ensures, c.of_letters.ensures) (least_numbers c.args.m.now.alphabet c.args.m.now.rows m c.args.moving.now c.requires.moving c.args.numbers.now c.requires.numbers c.args.returns.now c.requires.returns c.in_ok-doubling.doubling.items dm letters la c.in_ok-home.home.items hm c.in_ok-backs.backs.first.items c.in_ok-backs.backs.second.items lp)

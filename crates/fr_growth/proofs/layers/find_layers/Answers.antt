@@ -19,7 +19,9 @@ pub loop-long-init : goal.loop-long-init
 loop-long-init c =
     let m = c.machine-known.ensures.valid in
     record {
-      layers = rw (c.in_ok-push.ensures.items, c.new-sets.ensures.items) (layers_start c.args.m.now.alphabet c.args.m.now.rows c.args.goals.now m c.args.from c.args.distances.now.values.items c.in_ok-layer.layer.set c.in_ok-layer.layer.rows.items c.args.most c.requires.from c.requires.goals c.in_ok-layer.ensures);
+      layers = rw (c.in_ok-push.ensures.items, c.new-sets.ensures.items) (layers_start c.args.m.now.alphabet c.args.m.now.rows c.args.goals.now m c.args.from c.args.distances.now.values.items c.in_ok-layer.layer.set c.in_ok-layer.layer.rows.items c.args.most c.requires.from c.requires.goals c.in_ok-layer.ensures.goals);
+      own = c.in_ok-layer.ensures.letters ∙ c.requires.goals;
+      room = omega (arith, c.in_ok-next.ensures.letters, c.requires.goals);
       size = omega (arith, c.in_ok-push.ensures.len, c.new-sets.ensures.len);
       lowered = record { most = omega arith; least = omega arith; cause = inl refl };
     }
@@ -33,12 +35,14 @@ pub loop-long-preserved : goal.loop-long-preserved
 loop-long-preserved c =
     let m = c.machine-known.ensures.valid in
     let i = c.loop-long.invariant in
-    let low = c.in_ok-layer-2.ensures.lowered in
-    let part : IsPart c.args.m.now.alphabet c.args.m.now.rows c.args.goals.now c.args.distances.now.values.items c.args.edges.now.list.items (length c.loop-long.sets.items) (λ e. IsToFirst c.args.m.now.rows c.args.edges.now.list.items c.loop-long.layer.rows.items (length c.loop-long.layer.rows.items) e) c.in_ok-layer-2.layer.set c.in_ok-layer-2.layer.rows.items c.in_ok-layer-2.layer.letters.items c.layer_before.new.bound = rw i.size (rw c.deref.ensures.value at c.in_ok-layer-2.ensures.layer) in
+    let low = c.in_ok-layer_before.ensures.lowered in
+    let part : IsPart c.args.m.now.alphabet c.args.m.now.rows c.args.goals.now c.args.distances.now.values.items c.args.edges.now.list.items (length c.loop-long.sets.items) (λ e. IsToFirst c.args.m.now.rows c.args.edges.now.list.items c.loop-long.layer.rows.items (length c.loop-long.layer.rows.items) e) c.layer_before.new.layer.set c.layer_before.new.layer.rows.items c.layer_before.new.layer.letters.items c.layer_before.new.bound = rw i.size (rw c.deref.ensures.value at c.in_ok-layer_before.ensures.layer) in
     record {
-      layers = rw c.in_ok-push-2.ensures.items (layers_more c.args.m.now.alphabet c.args.m.now.rows c.args.goals.now m c.args.from c.args.distances.now.rows.items c.args.distances.now.values.items c.requires.distances c.args.edges.now.list.items c.args.edges.now.latest.items c.requires.edges
-          c.loop-long.sets.items c.loop-long.layer.rows.items c.loop-long.bound i.layers c.in_ok-layer-2.layer.set c.in_ok-layer-2.layer.rows.items c.in_ok-layer-2.layer.letters.items c.layer_before.new.bound low.most part);
-      size = omega (arith, i.size, more_items c.loop-long.sets.items c.push-in-loop-long.new.self.items c.in_ok-layer-2.layer.set c.in_ok-push-2.ensures.items);
+      layers = rw (c.swap.ensures.x_after, c.in_ok-push-2.ensures.items) (layers_more c.args.m.now.alphabet c.args.m.now.rows c.args.goals.now m c.args.from c.args.distances.now.rows.items c.args.distances.now.values.items c.requires.distances c.args.edges.now.list.items c.args.edges.now.latest.items c.requires.edges
+          c.loop-long.sets.items c.loop-long.layer.rows.items c.loop-long.bound i.layers c.layer_before.new.layer.set c.layer_before.new.layer.rows.items c.layer_before.new.layer.letters.items c.layer_before.new.bound low.most part);
+      own = rw c.swap.ensures.x_after part.size;
+      room = rw c.swap.ensures.y_after i.own;
+      size = omega (arith, i.size, more_items c.loop-long.sets.items c.push-in-loop-long.new.self.items c.layer_before.new.layer.set c.in_ok-push-2.ensures.items);
       lowered = lowered_next c.args.m.now.alphabet c.args.m.now.rows c.args.goals.now c.args.from c.loop-long.long c.args.most c.loop-long.bound c.layer_before.new.bound i.lowered low;
     }
 

@@ -7,8 +7,8 @@ pub loop-place-init : goal.loop-place-init
 loop-place-init c =
     let m = c.machine-known.ensures.valid in
     record {
-      part = rw c.in_ok-layer.ensures.rows (part_none c.args.m.now.alphabet c.args.m.now.rows c.args.goals.now c.args.distances.now.values.items c.args.edges.now.list.items c.args.long (λ e. IsToFirst c.args.m.now.rows c.args.edges.now.list.items c.args.rows.now 0 e) c.in_ok-layer.layer.set c.in_ok-layer.layer.letters.items c.args.bound.now
-          (λ e q. absurd (omega (arith, q.1))) (omega (arith, c.in_ok-layer.ensures.letters, c.size.ensures)) m.small c.in_ok-layer.ensures.set);
+      part = rw c.clear.ensures.rows (part_none c.args.m.now.alphabet c.args.m.now.rows c.args.goals.now c.args.distances.now.values.items c.args.edges.now.list.items c.args.long (λ e. IsToFirst c.args.m.now.rows c.args.edges.now.list.items c.args.rows.now 0 e) c.clear.new.self.set c.clear.new.self.letters.items c.args.bound.now
+          (λ e q. absurd (omega (arith, q.1))) (omega (arith, c.clear.ensures.letters, c.requires.letters)) m.small c.clear.ensures.set);
       lowered = record { most = omega arith; least = c.requires.bound; cause = inl refl };
     }
 

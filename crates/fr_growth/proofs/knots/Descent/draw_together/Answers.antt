@@ -39,6 +39,7 @@ loop-self-preserved c =
         looked = looked_together d rows m s.path.items ks s.places.items s.numbers.items s.letters.items b s.count (rw split at h.looked);
         numbered = h.numbered;
         few = h.few;
+        listed = h.listed;
       };
       path = i.path;
       walk = i.walk;

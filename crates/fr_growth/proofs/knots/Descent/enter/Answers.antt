@@ -1,5 +1,5 @@
 use Rattle.std.proofs.Common.{arith, ◌≡◌, ◌<◌, length}
-use Rattle.fr_growth.proofs.KnotLaws.{met_rows-le, path_entered, knots_entered, walk_entered, met_entered, looked_entered, few_entered}
+use Rattle.fr_growth.proofs.KnotLaws.{met_rows-le, path_entered, knots_entered, walk_entered, met_entered, looked_entered, few_entered, listed_entered}
 use Rattle.fr_growth.proofs.knots.Descent.enter.Goals as goal
 
 pub overflow_cast-place : goal.overflow_cast-place
@@ -27,4 +27,5 @@ returns-clause-descent c =
       looked = rw (c.in_ok-push.ensures.items, c.in_ok-push-2.ensures.items, at) (looked_entered d rows m s.path.items s.bounds.items s.walk.items s.places.items s.numbers.items s.letters.items s.count t h.path h.knots h.walk h.met h.looked h.few short c.requires.row c.requires.fresh);
       numbered = h.numbered;
       few = rw c.in_ok-push.ensures.items (few_entered d rows m s.path.items s.bounds.items s.walk.items s.places.items s.numbers.items s.letters.items s.count t h.path h.knots h.walk h.met h.looked h.few short c.requires.row c.requires.fresh);
+      listed = rw c.in_ok-push.ensures.items (listed_entered d rows m s.path.items s.bounds.items s.walk.items s.places.items s.numbers.items s.letters.items s.count t h.path h.knots h.walk h.met h.looked h.few short c.requires.row c.requires.fresh s.order.items h.listed);
     }

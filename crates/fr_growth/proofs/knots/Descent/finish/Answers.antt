@@ -1,6 +1,6 @@
 use Rattle.std.proofs.Common.{arith, ℕ, ◌≡◌, ◌++◌, [], ◌∷◌, take, ap, sym, ◌∙◌, Vec, Global}
 use Rattle.fr_growth.specs.Knots.{last_of}
-use Rattle.fr_growth.proofs.KnotLaws.{met_rows-le, popped, last_pushed, path_finished, knots_finished, walk_finished, met_finished, looked_finished, numbered_finished, few_finished}
+use Rattle.fr_growth.proofs.KnotLaws.{met_rows-le, popped, last_pushed, path_finished, knots_finished, walk_finished, met_finished, looked_finished, numbered_finished, few_finished, listed_finished}
 use Rattle.fr_growth.proofs.knots.Descent.finish.Goals as goal
 
 pub overflow_add-self : goal.overflow_add-self
@@ -41,4 +41,5 @@ returns-clause-descent c =
       looked = rw (path', bounds', letters', c.number.ensures.count) (looked_finished d rows m s.path.items bs ws s.places.items s.numbers.items s.letters.items s.order.items s.count b to.places.items to.numbers.items to.order.items h.path knots opens h.met looked h.numbered h.few over numbering);
       numbered = rw c.number.ensures.count (numbered_finished d rows m s.path.items bs ws s.places.items s.numbers.items s.letters.items s.order.items s.count b to.places.items to.numbers.items to.order.items h.path knots opens h.met looked h.numbered h.few over numbering);
       few = rw (path', letters', c.number.ensures.count) (few_finished d rows m s.path.items bs ws s.places.items s.numbers.items s.letters.items s.order.items s.count b to.places.items to.numbers.items to.order.items h.path knots opens h.met looked h.numbered h.few over numbering);
+      listed = rw (path', letters') (listed_finished d rows m s.path.items bs ws s.places.items s.numbers.items s.letters.items s.order.items s.count b to.places.items to.numbers.items to.order.items h.path knots opens h.met looked h.numbered h.few over numbering h.listed);
     }

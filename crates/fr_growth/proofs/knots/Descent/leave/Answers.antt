@@ -24,4 +24,5 @@ returns-clause-descent c =
       looked = h.looked;
       numbered = h.numbered;
       few = h.few;
+      listed = h.listed;
     }

@@ -4,7 +4,7 @@ use Rattle.fr_machine.specs.Machine.{MachineView}
 use Rattle.fr_machine.specs.Rows.{states_of}
 use Rattle.fr_growth.specs.Knots.{last_of}
 use Rattle.fr_growth.proofs.RowLaws.{IsReached-next}
-use Rattle.fr_growth.proofs.KnotLaws.{read_at, read_last, walk_place, path_letter, walk_looked, met_looked, looked_more, few_looked, work_looked, letter_grows}
+use Rattle.fr_growth.proofs.KnotLaws.{read_at, read_last, walk_place, path_letter, walk_looked, met_looked, looked_more, few_looked, listed_looked, work_looked, letter_grows}
 use Rattle.fr_growth.proofs.knots.Descent.step.Goals as goal
 
 pub next-requires-clause-letter : goal.next-requires-clause-letter
@@ -92,6 +92,7 @@ returns-clause-descent c =
       looked = looked_more d rows m s'.path.items s'.bounds.items s'.walk.items s'.places.items s'.numbers.items s'.letters.items s'.count a r x h'.path h'.walk h'.met h'.looked h'.few c.in_ok-meet.ensures.place at has least most (rw to at c.in_ok-meet.ensures.settled);
       numbered = h'.numbered;
       few = few_looked d rows m s'.path.items s'.bounds.items s'.walk.items s'.places.items s'.numbers.items s'.letters.items s'.count a r x h'.path h'.walk h'.met h'.looked h'.few c.in_ok-meet.ensures.place at has least most;
+      listed = listed_looked d rows m s'.path.items s'.bounds.items s'.walk.items s'.places.items s'.numbers.items s'.letters.items s'.count a r x h'.path h'.walk h'.met h'.looked h'.few c.in_ok-meet.ensures.place at has least most s'.order.items h'.listed;
     }
 
 pub returns-clause-less : goal.returns-clause-less

@@ -15,5 +15,5 @@ loop-s-preserved c = elim c.if-goals-s.branch [
   | else-goals-s w ↦ rw w.layer-is (goals_skip c.args.goals.now c.loop-s.s c.loop-s.layer.set c.loop-s.layer.rows.items c.loop-s.layer.letters.items c.loop-s.invariant (omega (arith, c.loop-s-test.true, c.requires)) w.if-goals-s.false)
 ]
 
-pub returns : goal.returns
-returns c = goals_all c.args.goals.now c.loop-s.s c.loop-s.layer.set c.loop-s.layer.rows.items c.loop-s.layer.letters.items c.loop-s.invariant (omega (arith, c.loop-s-test.false))
+pub returns-clause-goals : goal.returns-clause-goals
+returns-clause-goals c = goals_all c.args.goals.now c.loop-s.s c.loop-s.layer.set c.loop-s.layer.rows.items c.loop-s.layer.letters.items c.loop-s.invariant (omega (arith, c.loop-s-test.false))
