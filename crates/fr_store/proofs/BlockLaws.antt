@@ -128,3 +128,13 @@ module _ (d : ℕ) (rows : List Row) (places : List Place) (a : AreBlocks d rows
   code_at-new i l =
       let z : length rows + i - length rows ≡ i = omega arith in
       ap (λ (q : Place). row_code d (block rows' q) (length rows + i - q.start)) (place-new i l) ∙ ap (λ b. row_code d b (length rows + i - length rows)) block-new ∙ ap (row_code d new) z
+
+  pub element_at-old : (r : ℕ) → r < length rows → element_at rows' places' r ≡ element_at rows places r
+  element_at-old r l =
+      let e = place-old r l in
+      ap (λ (q : Place). row_term (block rows' q) (r - q.start)) e ∙ ap (λ b. row_term b (r - (place_at places r).start)) (block-old (place_at places r) (a.placed r l).within)
+
+  pub element_at-new : (i : ℕ) → i < length new → element_at rows' places' (length rows + i) ≡ row_term new i
+  element_at-new i l =
+      let z : length rows + i - length rows ≡ i = omega arith in
+      ap (λ (q : Place). row_term (block rows' q) (length rows + i - q.start)) (place-new i l) ∙ ap (λ b. row_term b (length rows + i - length rows)) block-new ∙ ap (row_term new) z

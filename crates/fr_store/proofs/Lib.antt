@@ -1,5 +1,6 @@
 pub mod StoreLaws
 pub mod BlockLaws
+pub mod SizeLaws
 pub mod IndexLaws
 pub mod TableLaws
 pub mod ReenterLaws

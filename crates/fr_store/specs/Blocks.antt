@@ -1,8 +1,9 @@
 -- Rows in blocks, one block behind the other, and the codes of rows. A block is a machine of its own. This project's own.
-use Rattle.std.specs.Prelude.{ℕ, ◌≡◌, ◌+◌, ◌-◌, ◌<◌, ◌≤◌, List, length, take, drop, slice_index_or}
+use Rattle.std.specs.Prelude.{ℕ, ◌≡◌, ◌≢◌, ◌+◌, ◌-◌, ◌<◌, ◌≤◌, List, length, take, drop, slice_index, slice_index_or}
 use Rattle.fr_machine.specs.declared.row.Row.{Row}
 use Rattle.fr_model.specs.Terms.{Term}
 use Rattle.fr_model.specs.Automata.{next_state}
+use Rattle.fr_model.specs.Classes.{IsSize}
 use Rattle.fr_machine.specs.Rows.{IsMachine, row_term, states_of}
 use Rattle.fr_machine.specs.Minimal.{AreUnlike}
 use Rattle.fr_store.specs.declared.blocks.Place.{Place}
@@ -42,3 +43,9 @@ pub record IsPlaced (d : ℕ) (rows : List Row) (places : List Place) (r : ℕ) 
 pub record AreBlocks (d : ℕ) (rows : List Row) (places : List Place) : Type 0 where
   pub as_many : length places ≡ length rows
   pub placed : (r : ℕ) → r < length rows → IsPlaced d rows places r (place_at places r)
+
+-- each row has a number, which is 0 or the size of its element
+pub record AreSizes (d : ℕ) (rows : List Row) (places : List Place) (sizes : List ℕ) : Type 0 where
+  pub one_each : length sizes ≡ length rows
+  pub most : (r : ℕ) → r < length rows → slice_index sizes r ≤ 1024
+  pub sized : (r : ℕ) → r < length rows → slice_index sizes r ≢ 0 → ∥ IsSize d (element_at rows places r) (slice_index sizes r) ∥₁

@@ -1,6 +1,6 @@
 //! Rows in blocks, one block behind the other.
 
-ghost use Rattle.std.specs.Prelude.{◌≡◌, ◌↔◌, ◌+◌, ◌-◌, ◌<◌, ◌≤◌, ◌^◌, [], ◌++◌, IsTrue, IfOk, length, replicate, vec_len, vec_capacity};
+ghost use Rattle.std.specs.Prelude.{◌≡◌, ◌↔◌, ◌+◌, ◌-◌, ◌<◌, ◌≤◌, ◌^◌, [], ◌++◌, IsTrue, IfOk, length, replicate, slice_set, vec_len, vec_capacity};
 ghost use Rattle.fr_model.specs.Words.{IsLetter};
 ghost use Rattle.fr_model.specs.Terms.{Term, IsAlike};
 ghost use Rattle.fr_model.specs.Automata.{next_state, state_at};
@@ -10,7 +10,7 @@ ghost use Rattle.fr_machine.specs.Rows.{IsMachine, states_of};
 ghost use Rattle.fr_machine.specs.Minimal.{IsMinimal};
 ghost use Rattle.std.proofs.Props.{props};
 ghost use Rattle.fr_store.specs.Props.{IsWord-IsProp};
-ghost use Rattle.fr_store.specs.Blocks.{AreBlocks, IsPlaced, code_at, element_at, place_at, block, next_at};
+ghost use Rattle.fr_store.specs.Blocks.{AreBlocks, AreSizes, IsPlaced, code_at, element_at, place_at, block, next_at};
 
 use fr_alphabet::{Alphabet, NoMemory, Perm};
 use fr_canon::{Code, Scratch, canon_rows, canonical_machine, count_states, has_code};
@@ -26,15 +26,19 @@ pub(crate) struct Place {
     pub size: u32,
 }
 
-/// Rows in blocks, each of which is a machine of at most 1,024 unlike rows; next rows are counted from its first row. All
-/// memory is taken when it is made. This project's own.
+/// Rows in blocks, each of which is a machine of at most 1,024 unlike rows; next rows are counted from its first row. How
+/// many sections the element of a row has is kept, once it is known. All memory is taken when it is made. This project's
+/// own.
 #[derive(Debug, Drop)]
 pub(crate) struct Blocks {
     pub alphabet: Alphabet,
     pub rows: Vec<Row>,
     // The block of each row.
     pub places: Vec<Place>,
+    // For each row how many sections its element has, or 0 where they were not counted.
+    pub sizes: Vec<u16>,
     ghost are_blocks: { AreBlocks alphabet rows.items places.items } by { Prim.hlevel (props, IsWord-IsProp) },
+    ghost are_sizes: { AreSizes alphabet rows.items places.items sizes.items },
     ghost few: { length rows.items < 2 ^ 32 },
     ghost least: { 2 ≤ alphabet },
     ghost most: { alphabet ≤ 8 },
@@ -46,13 +50,14 @@ impl Blocks {
         ensures alphabet { IfOk result (λ b. b.alphabet ≡ a) }
         ensures rows { IfOk result (λ b. b.rows.items ≡ []) }
         ensures places { IfOk result (λ b. b.places.items ≡ []) }
-        ensures room { IfOk result (λ b. (room ≤ vec_capacity b.rows) × (room ≤ vec_capacity b.places)) }
+        ensures room { IfOk result (λ b. (room ≤ vec_capacity b.rows) × (room ≤ vec_capacity b.places) × (room ≤ vec_capacity b.sizes)) }
     {
         let _letters = a.letters();
         Ok(Blocks {
             alphabet: a,
             rows: Vec::with_capacity(alloc, room)?,
             places: Vec::with_capacity(alloc, room)?,
+            sizes: Vec::with_capacity(alloc, room)?,
         })
     }
 
@@ -100,8 +105,28 @@ impl Blocks {
         )
     }
 
-    /// How many sections the element of a row has, up to acting alike: 1 to 1,024.
-    pub fn states(&self, scratch: &mut Scratch, row: u32) -> u16
+    /// How many sections the element of a row has, up to acting alike: 1 to 1,024. They are counted when they are first
+    /// asked for.
+    pub fn states(&mut self, scratch: &mut Scratch, row: u32) -> u16
+        requires { row < length self.old.rows.items }
+        ensures size { (t : Term) → IsAlike (element_at self.old.rows.items self.old.places.items row) t → IsSize self.old.alphabet t result }
+        ensures most { result ≤ 1024 }
+        ensures alphabet { self.new.alphabet ≡ self.old.alphabet }
+        ensures rows { self.new.rows ≡ self.old.rows }
+        ensures places { self.new.places ≡ self.old.places }
+        ensures size_room { vec_capacity self.old.sizes ≤ vec_capacity self.new.sizes }
+    {
+        let known = self.sizes[row as usize];
+        if known > 0 {
+            return known;
+        }
+        let size = self.count(scratch, row);
+        self.sizes[row as usize] = size;
+        size
+    }
+
+    // Counts the sections of the element of a row, up to acting alike.
+    fn count(&self, scratch: &mut Scratch, row: u32) -> u16
         requires { row < length self.now.rows.items }
         ensures size { (t : Term) → IsAlike (element_at self.now.rows.items self.now.places.items row) t → IsSize self.now.alphabet t result }
         ensures most { result ≤ 1024 }
@@ -166,19 +191,23 @@ impl Blocks {
         requires few { length self.old.rows.items + length m.now.rows < 2 ^ 32 }
         requires row_room { length self.old.rows.items + length m.now.rows ≤ vec_capacity self.old.rows }
         requires place_room { length self.old.rows.items + length m.now.rows ≤ vec_capacity self.old.places }
+        requires size_room { length self.old.rows.items + length m.now.rows ≤ vec_capacity self.old.sizes }
         ensures alphabet { self.new.alphabet ≡ self.old.alphabet }
         ensures rows { self.new.rows.items ≡ self.old.rows.items ++ m.now.rows }
         ensures places { self.new.places.items ≡ self.old.places.items ++ replicate (length m.now.rows) (record { start = length self.old.rows.items; size = length m.now.rows }) }
         ensures row_room { vec_capacity self.old.rows ≤ vec_capacity self.new.rows }
         ensures place_room { vec_capacity self.old.places ≤ vec_capacity self.new.places }
+        ensures size_room { vec_capacity self.old.sizes ≤ vec_capacity self.new.sizes }
         ensures minimal { IsMinimal m.now.alphabet m.now.rows }
     {
+        let size = m.size();
         let place = Place {
             start: self.rows.len() as u32,
-            size: m.size() as u32,
+            size: size as u32,
         };
         let _ = self.rows.extend_from_slice(m.machine().rows());
         push_places(&mut self.places, place);
+        push_sizes(&mut self.sizes, size);
     }
 }
 
@@ -211,4 +240,16 @@ fn push_places(places: &mut Vec<Place>, place: Place)
     for _ in 0..place.size {
         let _ = places.push(place);
     }
+}
+
+// Notes how many sections the first row of a new block has: it leads to all rows. Those of the others are not counted yet.
+fn push_sizes(sizes: &mut Vec<u16>, size: u16)
+    requires some { 1 ≤ size }
+    requires room { length sizes.old.items + size ≤ vec_capacity sizes.old }
+    ensures sizes { sizes.new.items ≡ slice_set (sizes.old.items ++ replicate size 0) (length sizes.old.items) size }
+    ensures room { vec_capacity sizes.old ≤ vec_capacity sizes.new }
+{
+    let start = sizes.len();
+    let _ = sizes.resize(start + size as usize, 0);
+    sizes[start] = size;
 }

@@ -370,6 +370,7 @@ impl Index {
         requires few { length blocks.old.rows.items + length m.now.rows < length self.old.cells.items }
         requires row_room { length blocks.old.rows.items + length m.now.rows ≤ vec_capacity blocks.old.rows }
         requires place_room { length blocks.old.rows.items + length m.now.rows ≤ vec_capacity blocks.old.places }
+        requires size_room { length blocks.old.rows.items + length m.now.rows ≤ vec_capacity blocks.old.sizes }
         requires handle_room { length blocks.old.rows.items + length m.now.rows ≤ vec_capacity self.old.handles }
         requires link_room { length blocks.old.rows.items + length m.now.rows ≤ vec_capacity self.old.links }
         ensures alphabet { blocks.new.alphabet ≡ blocks.old.alphabet }
@@ -378,6 +379,7 @@ impl Index {
         ensures most_bits { self.new.most_bits ≡ self.old.most_bits }
         ensures row_room { vec_capacity blocks.old.rows ≤ vec_capacity blocks.new.rows }
         ensures place_room { vec_capacity blocks.old.places ≤ vec_capacity blocks.new.places }
+        ensures size_room { vec_capacity blocks.old.sizes ≤ vec_capacity blocks.new.sizes }
         ensures handle_room { vec_capacity self.old.handles ≤ vec_capacity self.new.handles }
         ensures link_room { vec_capacity self.old.links ≤ vec_capacity self.new.links }
     {

@@ -50,6 +50,8 @@ fn sections_have_handles(rt: HostRuntime) -> Result<(), Fail> {
     let k = store.intern(&e).ok().expect(&rt, "room");
     assert_eq!(rt; store.section(k, 1), one);
     assert_eq!(rt; store.states(k), 2);
+    assert_eq!(rt; store.states(one), 1);
+    assert_eq!(rt; store.states(one), 1);
     assert_eq!(rt; store.census(), 3);
     Ok(())
 }

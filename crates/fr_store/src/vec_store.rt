@@ -18,8 +18,9 @@ use fr_machine::Minimal;
 use std::alloc::Global;
 
 /// A store for one thread. It keeps the rows of the elements that were claimed, and finds its handles by a hash of their
-/// codes, which are compared with the rows themselves. It remembers some 8,000 products, and forgets one where
-/// another needs its place. All memory is taken when it is made. This project's own.
+/// codes, which are compared with the rows themselves. It keeps how many states an element has, once it is known. It
+/// remembers some 8,000 products, and forgets one where another needs its place. All memory is taken when it is made.
+/// This project's own.
 #[derive(Debug, Drop)]
 pub struct VecStore {
     blocks: Blocks,
@@ -38,6 +39,7 @@ pub struct VecStore {
     ghost cell_room: { 2 * capacity ≤ 2 ^ index.most_bits },
     ghost row_room: { capacity ≤ vec_capacity blocks.rows },
     ghost place_room: { capacity ≤ vec_capacity blocks.places },
+    ghost size_room: { capacity ≤ vec_capacity blocks.sizes },
     ghost handle_room: { capacity ≤ vec_capacity index.handles },
     ghost link_room: { capacity ≤ vec_capacity index.links },
 }

@@ -1,12 +1,15 @@
-use Rattle.std.proofs.Common.{◌≡◌, sym, subst}
-use Rattle.fr_model.specs.Terms.{IsAlike}
-use Rattle.fr_store.specs.Blocks.{place_at}
-use Rattle.fr_store.proofs.BlockLaws.{element_is, read_place}
+use Rattle.fr_model.proofs.AlikeLaws.{alike_refl}
+use Rattle.fr_store.specs.Blocks.{element_at}
+use Rattle.fr_store.proofs.SizeLaws.{AreSizes-put, size-kept}
 use Rattle.fr_store.proofs.blocks.Blocks.states.Goals as goal
 
-pub returns-clause-size : goal.returns-clause-size
-returns-clause-size c = λ t e.
+pub returns-then-known-gt0-clause-size : goal.returns-then-known-gt0-clause-size
+returns-then-known-gt0-clause-size c =
     let s = c.args.self.now in
-    let place : c.index-place.result.now ≡ place_at s.places.items c.args.row = read_place s.alphabet s.rows.items s.places.items c.args.row c.index-place.result.now s.are_blocks c.requires c.index-place.ensures in
-    let same = element_is s.rows.items s.places.items c.args.row c.block-block.result.now c.index-place.result.now c.block-block.ensures.value place in
-    c.count_states.ensures.size t (subst (λ u. IsAlike u t) (sym same) e)
+    size-kept s.alphabet s.rows.items s.places.items s.sizes.items c.args.row c.index-known.result.now s.are_blocks s.are_sizes c.requires c.index-known.ensures c.if-known-gt0.true
+
+pub invariant_of-self-clause-are_sizes : goal.invariant_of-self-clause-are_sizes
+invariant_of-self-clause-are_sizes c =
+    let s = c.args.self.now in
+    let e = element_at s.rows.items s.places.items c.args.row in
+    AreSizes-put s.alphabet s.rows.items s.places.items s.sizes.items c.args.row c.count-size.result s.are_sizes c.requires c.count-size.ensures.most (c.count-size.ensures.size e (alike_refl e))
