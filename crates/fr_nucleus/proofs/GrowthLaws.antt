@@ -1,6 +1,5 @@
 -- Members and their products: what the classes of products say of the closure.
-use Rattle.std.proofs.Common.{ℕ, zero, suc, ◌≡◌, ◌+◌, ◌*◌, ◌/◌, ◌%◌, ◌<◌, ◌≤◌, ◌⊎◌, inl, inr, Bool, true, false, Option, Some, None, List, [], ◌∷◌, ◌++◌, length, map, get_or, refl, sym, ◌∙◌, ap, subst, arith}
-use Rattle.std.specs.Prelude.{MatchOption}
+use Rattle.std.proofs.Common.{ℕ, zero, suc, ◌≡◌, ◌+◌, ◌*◌, ◌/◌, ◌%◌, ◌<◌, ◌≤◌, ◌⊎◌, inl, inr, Bool, List, [], ◌∷◌, ◌++◌, length, map, get_or, refl, sym, ◌∙◌, ap, subst, arith}
 use Rattle.std.specs.List.{Contains}
 use Rattle.std.proofs.lemmas.Bool.{cases_lt}
 use Rattle.std.proofs.lemmas.Nat.{mul-le}
@@ -15,7 +14,6 @@ use Rattle.fr_machine.specs.declared.row.Row.{Row}
 use Rattle.fr_machine.specs.Rows.{row_term, states_of, IsMachine, row_at}
 use Rattle.fr_machine.proofs.RowLaws.{IsAutomaton-states_of, length-states_of, row_valid, next_is}
 use Rattle.fr_product.proofs.PairLaws.{pair_lt}
-use Rattle.fr_nucleus.specs.Depths.{mark_at}
 use Rattle.fr_nucleus.specs.Rows.{HasRow, AreFewRows}
 use Rattle.fr_nucleus.specs.Products.{IsProductTable}
 use Rattle.fr_nucleus.specs.Numberings.{AreOutside, IsNumberingOf, IsOverfull, AreGrown, AreMembers, HasMoreOf, IsClosure}

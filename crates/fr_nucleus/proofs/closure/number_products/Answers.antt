@@ -1,4 +1,4 @@
-use Rattle.std.proofs.Common.{ℕ, arith, ap, sym, subst, ◌≡◌, ◌*◌, ◌⊎◌, length}
+use Rattle.std.proofs.Common.{arith, ap, sym, subst, ◌≡◌, ◌*◌, ◌⊎◌, length}
 use Rattle.std.proofs.lemmas.Result.{IfErr-weaker, err_from_is_err_and}
 use Rattle.fr_model.specs.Terms.{IsAlike}
 use Rattle.fr_machine.specs.Rows.{IsMachine, row_term}

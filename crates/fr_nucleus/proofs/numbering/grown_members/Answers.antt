@@ -1,4 +1,4 @@
-use Rattle.std.proofs.Common.{ℕ, arith, ap, sym, subst, ◌≡◌, ◌∙◌, ◌<◌, ◌≤◌, List, length}
+use Rattle.std.proofs.Common.{arith, ap, sym, subst, ◌≡◌, ◌<◌, ◌≤◌, length}
 use Rattle.std.specs.List.{All}
 use Rattle.fr_machine.specs.Rows.{IsMachine, row_at}
 use Rattle.fr_minimal.proofs.ChoiceLaws.{classes_below}

@@ -1,5 +1,4 @@
-use Rattle.std.proofs.Common.{ℕ, arith, ap, sym, subst, ◌≡◌, ◌∙◌, ◌<◌, ◌*◌, ◌⊎◌, List, length, get_or}
-use Rattle.std.specs.List.{All}
+use Rattle.std.proofs.Common.{ℕ, arith, ap, sym, subst, ◌≡◌, ◌∙◌, ◌*◌, ◌⊎◌, List, length}
 use Rattle.std.proofs.lemmas.Result.{err_from_is_err_and}
 use Rattle.fr_product.specs.Limits.{AreLimitRows}
 use Rattle.fr_minimal.proofs.ChoiceLaws.{classes_below}
