@@ -91,8 +91,8 @@ pub fn multiply<S: Store>(
     Ok(h)
 }
 
-/// The inverse of an element.
-pub fn invert<S: Store>(
+// The inverse of an element, as its machine gives it.
+fn made_inverse<S: Store>(
     alloc: Global,
     store: &mut S,
     a: Handle,
@@ -115,8 +115,33 @@ pub fn invert<S: Store>(
     enter(store, &inverses, charge)
 }
 
-/// The identity.
-pub fn identity<S: Store>(
+/// The inverse of an element. It is looked for among the inverses that the store remembers, and made where it is not there.
+pub fn invert<S: Store>(
+    alloc: Global,
+    store: &mut S,
+    a: Handle,
+    charge: &mut u64,
+) -> Result<Handle, EvalFault>
+    requires known { IsKnown (S.view.known store.old) a }
+    requires room { charge.old + 1024 < 2 ^ 64 }
+    ensures evaluates { (t : Term) → Stands S.view store.old a t
+        → Evaluates S.view (S.view.alphabet store.old) store.old store.new charge.old charge.new (inverse_of t) result }
+    ensures known { IfOk result (λ h. IsKnown (S.view.known store.new) h) }
+    ensures keeps { Keeps (S.view.known store.old) (S.view.known store.new) }
+    ensures continues { Continues S.view store.old store.new }
+    ensures most { charge.new ≤ charge.old + 1024 }
+{
+    if let Some(h) = store.recall_inverse(a) {
+        *charge += store.states(h) as u64;
+        return Ok(h);
+    }
+    let h = made_inverse(alloc, store, a, charge)?;
+    store.remember_inverse(a, h);
+    Ok(h)
+}
+
+// The identity, as its machine gives it.
+fn made_identity<S: Store>(
     alloc: Global,
     store: &mut S,
     charge: &mut u64,
@@ -130,6 +155,29 @@ pub fn identity<S: Store>(
 {
     let m = Minimal::identity(alloc, store.alphabet())?;
     enter(store, &m, charge)
+}
+
+/// The identity. It is made where the store does not remember it.
+pub fn identity<S: Store>(
+    alloc: Global,
+    store: &mut S,
+    charge: &mut u64,
+) -> Result<Handle, EvalFault>
+    requires room { charge.old + 1024 < 2 ^ 64 }
+    ensures evaluates { Evaluates S.view (S.view.alphabet store.old) store.old store.new charge.old charge.new (step Identity) result }
+    ensures known { IfOk result (λ h. IsKnown (S.view.known store.new) h) }
+    ensures keeps { Keeps (S.view.known store.old) (S.view.known store.new) }
+    ensures continues { Continues S.view store.old store.new }
+    ensures most { charge.new ≤ charge.old + 1024 }
+{
+    if let Some(h) = store.recall_identity() {
+        // It has one state.
+        *charge += 1;
+        return Ok(h);
+    }
+    let h = made_identity(alloc, store, charge)?;
+    store.remember_identity(h);
+    Ok(h)
 }
 
 /// The section of an element at a word over the store's alphabet. Nothing is claimed for it.

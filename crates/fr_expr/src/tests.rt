@@ -112,3 +112,27 @@ fn a_product_is_made_once(rt: HostRuntime) -> Result<(), Fail> {
     assert_eq!(rt; charge, 10);
     Ok(())
 }
+
+#[test]
+fn an_inverse_and_the_identity_are_made_once(rt: HostRuntime) -> Result<(), Fail> {
+    let a = Alphabet::new(2).expect(&rt, "two letters");
+    let adding = read_machine(rt.alloc(), a, ADDING)?;
+    let mut store = Counted::new(VecStore::new(rt.alloc(), a, 16)?);
+    let t = store.intern(&adding).ok().expect(&rt, "room");
+    let mut charge = 0;
+    let back = invert(rt.alloc(), &mut store, t, &mut charge)
+        .ok()
+        .expect(&rt, "an inverse");
+    assert_eq!(rt; store.recall_inverse(t), Some(back));
+    let again = invert(rt.alloc(), &mut store, t, &mut charge);
+    assert_eq!(rt; again, Ok(back));
+    assert_eq!(rt; store.built(), 1);
+    assert_eq!(rt; charge, 4);
+    let one = identity(rt.alloc(), &mut store, &mut charge)
+        .ok()
+        .expect(&rt, "the identity");
+    assert_eq!(rt; store.recall_identity(), Some(one));
+    assert_eq!(rt; identity(rt.alloc(), &mut store, &mut charge), Ok(one));
+    assert_eq!(rt; charge, 6);
+    Ok(())
+}

@@ -8,3 +8,4 @@ pub mod VecLaws
 pub mod EnterLaws
 pub mod PairLaws
 pub mod ProductLaws
+pub mod InverseLaws

@@ -17,7 +17,7 @@ use Rattle.fr_store.specs.Store.{StandsForTerm, IsKnown, Keeps, IsProductOf, IsR
 use Rattle.fr_store.specs.Blocks.{place_at, block, code_at, AreBlocks}
 use Rattle.fr_store.specs.Index.{known_in, IsIndex}
 use Rattle.fr_store.specs.Products.{IsEntry, AreProducts}
-use Rattle.fr_store.proofs.StoreLaws.{IsKnown-stands, IsKnown-term, stands_alike, stands_both, stands_keeps}
+use Rattle.fr_store.proofs.StoreLaws.{IsKnown-IsProp, IsAlike-IsProp, IsKnown-stands, IsKnown-term, stands_alike, stands_both, stands_keeps}
 use Rattle.fr_store.proofs.BlockLaws.{length-block}
 use Rattle.fr_store.proofs.VecLaws.{AreHandles-index, handle_row, own_alike}
 use Rattle.fr_store.proofs.PairLaws.{rows_counted}
@@ -56,12 +56,6 @@ AreProducts-found d known entries a b c all h =
     let here = all h.0 (record { left = a; right = b; product = c + 1 }) h.1 in
     let P : Entry → Type 0 = λ e. IsEntry d known e in
     (subst P h.2 here) c one
-
-IsKnown-IsProp : (known : ℕ → Option (List ℕ)) (h : Handle) → IsProp (IsKnown known h)
-IsKnown-IsProp known h = hlevel props
-
-IsAlike-IsProp : (t u : Term) → IsProp (IsAlike t u)
-IsAlike-IsProp t u = hlevel props
 
 le-IsProp : (m n : ℕ) → IsProp (m ≤ n)
 le-IsProp m n = hlevel props

@@ -1,5 +1,6 @@
 -- Laws of the handles of a store, for its callers: how they stay, move and meet.
 use Rattle.std.proofs.Common.{ℕ, ◌≡◌, inl, inr, List, [], ◌∷◌, ◌++◌, refl, sym, ◌∙◌, ap, Option, Some, None, arith}
+use Rattle.std.proofs.Props.{props}
 use Rattle.std.specs.Prelude.{unwrap_or, Result, Ok, Err}
 use Rattle.fr_model.specs.Terms.{Term, Section, IsTerm, IsAlike}
 use Rattle.fr_model.proofs.CodeLaws.{code-same, alike_from_code, IsCode-alike}
@@ -16,7 +17,13 @@ is_some : (o : Option (List ℕ)) (code : List ℕ) → o ≡ Some code → o �
 is_some None code e = absurd (cc)
 is_some (Some known) code e = refl
 
+pub IsAlike-IsProp : (t u : Term) → IsProp (IsAlike t u)
+IsAlike-IsProp t u = hlevel props
+
 -- ---- handles that are known
+pub IsKnown-IsProp : (known : Known) (h : Handle) → IsProp (IsKnown known h)
+IsKnown-IsProp known h = hlevel props
+
 pub IsKnown-from : (known : Known) (h : Handle) (code : List ℕ) → known h.node ≡ Some code → IsKnown known h
 IsKnown-from known h code e = is_some (known h.node) code e
 

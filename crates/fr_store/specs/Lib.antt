@@ -6,4 +6,5 @@ pub mod Index
 pub mod Props
 pub mod Entered
 pub mod Products
+pub mod Inverses
 pub mod VecView

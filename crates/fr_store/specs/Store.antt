@@ -2,7 +2,7 @@
 -- store is. A term is tied to a handle by its code. This project's own.
 use Rattle.std.specs.Prelude.{ℕ, ◌≡◌, ◌⊎◌, ◌+◌, ◌<◌, ◌≤◌, List, [], ◌∷◌, Option, Some, Result, Ok, Err, unwrap_or}
 use Rattle.fr_model.specs.Words.{IsWord}
-use Rattle.fr_model.specs.Terms.{Term, Product, Section, IsTerm}
+use Rattle.fr_model.specs.Terms.{Term, Product, Inverse, Section, IsTerm}
 use Rattle.fr_model.specs.Classes.{IsClassCount, HasFewPairs}
 use Rattle.fr_model.specs.Canonical.{IsCode}
 use Rattle.fr_store.specs.declared.handle.Handle.{Handle}
@@ -144,6 +144,12 @@ pub record IsProductOf (d : ℕ) (known : ℕ → Option (List ℕ)) (a b c : Ha
   pub second_at : StandsForTerm d known b second
   pub product_at : StandsForTerm d known c (Product first second)
   pub few : HasFewPairs d first second
+
+-- b is the handle of the inverse of the element of a
+pub record IsInverseOf (d : ℕ) (known : ℕ → Option (List ℕ)) (a b : Handle) : Type 0 where
+  pub element : Term
+  pub element_at : StandsForTerm d known a element
+  pub inverse_at : StandsForTerm d known b (Inverse element)
 
 -- the product of two terms has this handle, and its sections and nothing else became known with it
 pub record IsRecalled (d : ℕ) (t u : Term) (old new : ℕ → Option (List ℕ)) (h : Handle) : Type 0 where

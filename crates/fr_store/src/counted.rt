@@ -102,4 +102,20 @@ impl<S: Store> Store for Counted<S> {
     fn remember(&mut self, a: Handle, b: Handle, c: Handle) {
         self.inner.remember(a, b, c);
     }
+
+    fn recall_inverse(&mut self, a: Handle) -> Option<Handle> {
+        self.inner.recall_inverse(a)
+    }
+
+    fn remember_inverse(&mut self, a: Handle, b: Handle) {
+        self.inner.remember_inverse(a, b);
+    }
+
+    fn recall_identity(&mut self) -> Option<Handle> {
+        self.inner.recall_identity()
+    }
+
+    fn remember_identity(&mut self, h: Handle) {
+        self.inner.remember_identity(h);
+    }
 }

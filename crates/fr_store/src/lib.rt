@@ -5,6 +5,7 @@ mod blocks;
 mod counted;
 mod handle;
 mod index;
+mod inverses;
 mod products;
 mod store;
 #[cfg(test)]

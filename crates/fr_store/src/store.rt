@@ -3,11 +3,11 @@
 ghost use Rattle.std.specs.Prelude.{ℕ, ◌≡◌, ◌≤◌, ◌+◌, ◌*◌, ◌↔◌, [], ◌∷◌, IsTrue, IfOk, IfErr, IfSome, IfNone, length};
 ghost use Rattle.fr_model.specs.Words.{IsLetter};
 ghost use Rattle.fr_model.specs.Permutations.{IsPermutation, image};
-ghost use Rattle.fr_model.specs.Terms.{Term, Section, IsTerm, IsAlike, act};
+ghost use Rattle.fr_model.specs.Terms.{Term, One, Inverse, Section, IsTerm, IsAlike, act};
 ghost use Rattle.fr_model.specs.Classes.{IsSize};
 ghost use Rattle.fr_model.specs.Canonical.{IsCanonical};
 ghost use Rattle.fr_machine.specs.Rows.{row_term, states_of};
-ghost use Rattle.fr_store.specs.Store.{View, IsKnown, Stands, StandsForTerm, AreHandles, Keeps, SameKnown, Continues, Interns, Reads, IsProductOf, IsRecalled, known_code};
+ghost use Rattle.fr_store.specs.Store.{View, IsKnown, Stands, StandsForTerm, AreHandles, Keeps, SameKnown, Continues, Interns, Reads, IsProductOf, IsRecalled, IsInverseOf, known_code};
 
 use crate::handle::{Full, Handle};
 use fr_alphabet::{Alphabet, NoMemory, Perm};
@@ -101,6 +101,29 @@ pub trait Store {
     /// it for a later `recall`.
     fn remember(&mut self, a: Handle, b: Handle, c: Handle)
         requires { IsProductOf (view.alphabet self.old) (view.known self.old) a b c }
+        ensures { Reads view self.old self.new };
+
+    /// The handle of the inverse of the element of `a`, where it is at hand, and None else. Nothing becomes known.
+    fn recall_inverse(&mut self, a: Handle) -> Option<Handle>
+        requires { IsKnown (view.known self.old) a }
+        ensures inverse { IfSome result (λ h. (t : Term) → Stands view self.old a t → StandsForTerm (view.alphabet self.old) (view.known self.new) h (Inverse t)) }
+        ensures known { IfSome result (λ h. IsKnown (view.known self.new) h) }
+        ensures handles { AreHandles (view.alphabet self.old) (view.known self.new) }
+        ensures reads { Reads view self.old self.new };
+
+    /// Offers `b` as the handle of the inverse of `a`; a store may keep it for a later `recall_inverse`.
+    fn remember_inverse(&mut self, a: Handle, b: Handle)
+        requires { IsInverseOf (view.alphabet self.old) (view.known self.old) a b }
+        ensures { Reads view self.old self.new };
+
+    /// The handle of the identity, where it is at hand, and None else. Nothing becomes known.
+    fn recall_identity(&mut self) -> Option<Handle>
+        ensures identity { IfSome result (λ h. StandsForTerm (view.alphabet self.old) (view.known self.new) h One) }
+        ensures reads { Reads view self.old self.new };
+
+    /// Offers `h` as the handle of the identity; a store may keep it for a later `recall_identity`.
+    fn remember_identity(&mut self, h: Handle)
+        requires { StandsForTerm (view.alphabet self.old) (view.known self.old) h One }
         ensures { Reads view self.old self.new };
 
     ghost kin_to_self: { (s : Self) → view.kin s s };

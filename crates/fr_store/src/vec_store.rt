@@ -5,11 +5,13 @@ ghost use Rattle.fr_model.specs.Terms.{Term};
 ghost use Rattle.fr_store.specs.Coded.{codes_of};
 ghost use Rattle.fr_store.specs.Index.{IsIndex, IsTable, known_in};
 ghost use Rattle.fr_store.specs.Products.{AreProducts};
+ghost use Rattle.fr_store.specs.Inverses.{AreInverses, IsIdentity};
 ghost use Rattle.fr_store.specs.Store.{IsKnown, Stands, AreHandles, IsHandleCount, IsRecalled, Reads};
 
 use crate::blocks::Blocks;
 use crate::handle::{Full, Handle};
 use crate::index::{Desk, Index};
+use crate::inverses::Inverses;
 use crate::products::Products;
 use crate::store::Store;
 use fr_alphabet::{Alphabet, NoMemory, Perm};
@@ -19,8 +21,8 @@ use std::alloc::Global;
 
 /// A store for one thread. It keeps the rows of the elements that were claimed, and finds its handles by a hash of their
 /// codes, which are compared with the rows themselves. It keeps how many states an element has, once it is known. It
-/// remembers some 8,000 products, and forgets one where another needs its place. All memory is taken when it is made.
-/// This project's own.
+/// remembers the identity, some 8,000 products and some 1,000 inverses, and forgets one of these where another needs its
+/// place. All memory is taken when it is made. This project's own.
 #[derive(Debug, Drop)]
 pub struct VecStore {
     blocks: Blocks,
@@ -28,9 +30,14 @@ pub struct VecStore {
     capacity: u32,
     desk: Desk,
     products: Products,
+    inverses: Inverses,
+    // The handle of the identity, where it was offered.
+    identity: Option<Handle>,
     ghost is_index: { IsIndex (codes_of blocks) (length blocks.rows.items) index.handles.items index.links.items },
     ghost is_table: { IsTable (codes_of blocks) index.handles.items index.cells.items },
     ghost are_products: { AreProducts blocks.alphabet (known_in (codes_of blocks) index.handles.items) products.entries.items },
+    ghost are_inverses: { AreInverses blocks.alphabet (known_in (codes_of blocks) index.handles.items) inverses.entries.items },
+    ghost is_identity: { IsIdentity blocks.alphabet (known_in (codes_of blocks) index.handles.items) identity },
     ghost whole: { length index.links.items ≡ length blocks.rows.items },
     ghost fits: { length blocks.rows.items ≤ capacity },
     ghost some: { 1 ≤ capacity },
@@ -65,6 +72,8 @@ impl VecStore {
             capacity,
             desk: Desk::new(alloc)?,
             products: Products::new(alloc)?,
+            inverses: Inverses::new(alloc)?,
+            identity: None,
         })
     }
 
@@ -163,5 +172,24 @@ impl Store for VecStore {
 
     fn remember(&mut self, a: Handle, b: Handle, c: Handle) {
         self.products.put(a.node, b.node, c.node);
+    }
+
+    /// The handle of the inverse, where it was offered and no other took its place. Nothing becomes known.
+    fn recall_inverse(&mut self, a: Handle) -> Option<Handle> {
+        let node = self.inverses.get(a.node)?;
+        Some(Handle { node })
+    }
+
+    fn remember_inverse(&mut self, a: Handle, b: Handle) {
+        self.inverses.put(a.node, b.node);
+    }
+
+    /// The handle of the identity, where it was offered. Nothing becomes known.
+    fn recall_identity(&mut self) -> Option<Handle> {
+        self.identity
+    }
+
+    fn remember_identity(&mut self, h: Handle) {
+        self.identity = Some(h);
     }
 }
