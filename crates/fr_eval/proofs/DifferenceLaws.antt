@@ -20,10 +20,6 @@ AgreeOn-behind d t u n first behind [] word long = absurd (omega (arith, long))
 AgreeOn-behind d t u n first behind (x ∷ w) word long =
     joined t u x w (first (x ∷ []) (word.0, tt) refl) (behind x word.0 w word.1 (omega (arith, long)))
 
--- where words of one letter more agree, the sections agree
-pub AgreeOn-section : (d : ℕ) (t u : Term) (n x : ℕ) → IsLetter d x → AgreeOn d t u (suc n) → AgreeOn d (Section t (x ∷ [])) (Section u (x ∷ [])) n
-AgreeOn-section d t u n x letter same w word long = ap (drop 1) (same (x ∷ w) (letter, word) (ap suc long))
-
 -- where no word of at most as many letters tells the elements apart, the least word that tells the sections at the least
 -- such letter apart is, behind that letter, the least that tells the elements apart
 pub separates_behind : (d : ℕ) (t u : Term) (x : ℕ) (w : List ℕ) → IsLetter d x → AgreeOn d t u 1 → ((v : List ℕ) → IsWord d v → length v ≤ length w → act t v ≡ act u v)

@@ -91,12 +91,13 @@ fn different_image(p: Perm, q: Perm) -> Option<u8>
 }
 
 // The least word of two letters at which the images differ, of elements that no letter tells apart: its first letter is the
-// least at which the sections differ so early.
+// least at which the sections differ so early. There is none where no word of two letters tells the elements apart.
 fn different_pair<S: Store>(store: &mut S, a: Handle, b: Handle) -> Option<[u8; 2]>
     requires a_known { IsKnown (S.view.known store.old) a }
     requires b_known { IsKnown (S.view.known store.old) b }
     ensures word { IfSome result (IsWord (S.view.alphabet store.old)) }
     ensures separates { IfSome result (λ w. (t u : Term) → Stands S.view store.old a t → Stands S.view store.old b u → AgreeOn (S.view.alphabet store.old) t u 1 → IsSeparatingWord (S.view.alphabet store.old) t u w) }
+    ensures none { IfNone result ((t u : Term) → Stands S.view store.old a t → Stands S.view store.old b u → AgreeOn (S.view.alphabet store.old) t u 1 → AgreeOn (S.view.alphabet store.old) t u 2) }
     ensures reads { Reads S.view store.old store.new }
 {
     let letters = store.alphabet().letters();

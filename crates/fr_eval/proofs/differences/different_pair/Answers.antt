@@ -5,7 +5,7 @@ use Rattle.fr_model.specs.Terms.{Section}
 use Rattle.fr_model.specs.Separation.{IsSeparatingWord}
 use Rattle.fr_store.proofs.StoreLaws.{Reads-trans}
 use Rattle.fr_eval.specs.Differences.{AgreeOn}
-use Rattle.fr_eval.proofs.DifferenceLaws.{at_most_one, separates_behind}
+use Rattle.fr_eval.proofs.DifferenceLaws.{AgreeOn-behind, at_most_one, separates_behind}
 use Rattle.fr_eval.proofs.ReadLaws.{stands_after, stands_over}
 use Rattle.fr_eval.proofs.differences.different_pair.Goals as goal
 
@@ -56,3 +56,8 @@ loop-x-preserved g c =
             subst (λ (z : ℕ). AgreeOn (view.alphabet old) (Section t (z ∷ [])) (Section u (z ∷ [])) 1) is over
       ];
     }
+
+pub returns-clause-none : goal.returns-clause-none
+returns-clause-none g c = λ t u s r first.
+    let d = g.S.Store.view.alphabet c.args.store.now in
+    AgreeOn-behind d t u 1 first (λ x letter. c.loop-x.invariant.agree t u s r x letter (omega (arith, letter.1, c.loop-x-test.false, c.letters-letters.ensures.value, c.alphabet.ensures)))
