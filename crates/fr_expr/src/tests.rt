@@ -5,6 +5,7 @@ ghost use Rattle.fr_syntax.specs.Fits.{FitsAtom, FitsExpr};
 ghost use Rattle.fr_syntax.specs.Sizes.{atom_size, expr_size};
 
 use super::*;
+use crate::steps::{identity, invert};
 use fr_alphabet::{Alphabet, NoMemory};
 use fr_canon::read_machine;
 use fr_script::LineFault;

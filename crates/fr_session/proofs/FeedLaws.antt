@@ -7,6 +7,7 @@ use Rattle.fr_syntax.specs.declared.statement.Statement.{Statement}
 use Rattle.fr_syntax.specs.declared.statement.Statement.TheVariants as st
 use Rattle.fr_syntax.specs.declared.tree.Expr.{Expr}
 use Rattle.fr_script.specs.declared.fault.Fault.{Fault}
+use Rattle.fr_script.specs.Fits.{FitsBody}
 use Rattle.fr_script.specs.FaultTexts.{fault_text}
 use Rattle.fr_script.specs.declared.item.Item.{Item}
 use Rattle.fr_script.specs.declared.item.Body.{Body}
@@ -26,7 +27,12 @@ use Rattle.fr_eval.specs.Telling.{Answers, Defines}
 use Rattle.fr_eval.proofs.DefineLaws.{names_stay, makes_none, none_early}
 use Rattle.fr_session.specs.declared.session.Reply.{Reply}
 use Rattle.fr_session.specs.Faults.{of_stop}
-use Rattle.fr_session.specs.Feeding.{Replies, MakesFirst, Feeds}
+use Rattle.fr_session.specs.Feeding.{FitsSaid, Replies, MakesFirst, Feeds}
+
+-- what a script says may be fed
+pub fits_said : (d line : ℕ) (body : Body) → FitsBody d line 4096 body → FitsSaid d line body
+fits_said d line (b.Says s) h = h
+fits_said d line (b.Faulty f) h = tt
 
 -- ---- statements that ask
 pub is_ask : (s : Statement) → ((a : Alphabet) → s ≢ st.Alphabet a) → ((rs : Items Recursion) → s ≢ st.Group rs) → ((name : List ℕ) (e : Expr) → s ≢ st.Let name e) → IsAsk s

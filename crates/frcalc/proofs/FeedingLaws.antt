@@ -8,7 +8,7 @@ use Rattle.fr_script.specs.declared.item.Item.{Item}
 use Rattle.fr_script.specs.declared.item.Body.{Body}
 use Rattle.fr_script.specs.declared.item.Body.TheVariants as b
 use Rattle.fr_script.specs.declared.script.Script.{Script}
-use Rattle.fr_script.specs.Fits.{FitsBody, FitsItem, FitsItems, FitsScript}
+use Rattle.fr_script.specs.Fits.{FitsItem, FitsItems, FitsScript}
 use Rattle.fr_store.specs.declared.handle.Handle.{Handle}
 use Rattle.fr_store.specs.declared.vec_store.VecStore.{VecStore}
 use Rattle.fr_store.specs.Store.{Keeps, Continues}
@@ -24,7 +24,7 @@ use Rattle.fr_eval.specs.Bindings.{AreAbove, AddsAt}
 use Rattle.fr_session.specs.declared.session.Reply.{Reply}
 use Rattle.fr_session.specs.declared.fault.SessionFault.{SessionFault}
 use Rattle.fr_session.specs.declared.fault.SessionFault.TheVariants as session
-use Rattle.fr_session.specs.Feeding.{FitsSaid, FitsFed, BindsNothing, Replies, FindsNoRoom}
+use Rattle.fr_session.specs.Feeding.{FitsFed, BindsNothing, Replies, FindsNoRoom}
 use Rattle.fr_session.proofs.NameLaws.{above_later, above_added, AddsFrom, adds_nothing, adds_there, adds_below, adds_both, names_grow}
 use Rattle.frcalc.specs.declared.evaluation.EvaluationFault.TheVariants as fault
 use Rattle.frcalc.specs.declared.feeding.Fed.{Fed}
@@ -90,11 +90,6 @@ feeding_begins script limit store names replies fits a k own unknown none empty 
   alphabet = a;
   capacity = k;
 }
-
--- what is fed fits
-fits_said : (d line : ℕ) (body : Body) → FitsBody d line 4096 body → FitsSaid d line body
-fits_said d line (b.Says s) h = h
-fits_said d line (b.Faulty f) h = tt
 
 module _ {script : Script} {limit i : ℕ} {store : VecStore} {names : Names} {replies : List (Option Reply)} {charge : ℕ} (item : Item)
     (here : drop i script.items ≡ item ∷ drop (i + 1) script.items) (w : Feeding script limit i store names replies charge) where

@@ -5,8 +5,15 @@ use Rattle.fr_eval.proofs.DefineLaws.{known_none}
 use Rattle.fr_store.specs.VecView.{vec_view}
 use Rattle.frcalc.specs.declared.evaluation.EvaluationFault.TheVariants as fault
 use Rattle.frcalc.proofs.ItemLaws.{here, fault_same}
-use Rattle.frcalc.proofs.AnsweringLaws.{fed_length, answering_goes, answering_passes, answering_stops, answering_ends}
+use Rattle.frcalc.proofs.AnsweringLaws.{fed_length, answering_begins, answering_goes, answering_passes, answering_stops, answering_ends}
 use Rattle.frcalc.proofs.answering.answer_all.Goals as goal
+
+pub loop-k-init : goal.loop-k-init
+loop-k-init c = record {
+  items = c.as_slice-items.ensures;
+  known = c.requires.known;
+  answering = answering_begins c.args.script.now c.args.limit c.args.store.now (names_in c.args.env.now) c.args.fed.now c.new-text.result.items c.requires.fits c.requires.fed c.new-text.ensures.items;
+}
 
 pub returns-in_err-refused-clause-passed : goal.returns-in_err-refused-clause-passed
 returns-in_err-refused-clause-passed c = λ passed.
