@@ -25,6 +25,7 @@ use Rattle.fr_session.specs.declared.session.Reply.{Reply}
 use Rattle.fr_session.specs.declared.fault.SessionFault.{SessionFault}
 use Rattle.fr_session.specs.declared.fault.SessionFault.TheVariants as session
 use Rattle.fr_session.specs.Feeding.{FitsFed, BindsNothing, Replies, FindsNoRoom}
+use Rattle.fr_session.proofs.FeedLaws.{fits_said}
 use Rattle.fr_session.proofs.NameLaws.{above_later, above_added, AddsFrom, adds_nothing, adds_there, adds_below, adds_both, names_grow}
 use Rattle.frcalc.specs.declared.evaluation.EvaluationFault.TheVariants as fault
 use Rattle.frcalc.specs.declared.feeding.Fed.{Fed}
