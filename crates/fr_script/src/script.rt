@@ -8,6 +8,7 @@ ghost use Rattle.fr_script.specs.Scripts as spec;
 use crate::item::Item;
 use crate::line_reader::{LineReader, ScriptFault};
 use fr_alphabet::{Alphabet, NoMemory};
+use fr_syntax::length_before;
 use sqlite_items::Items;
 use std::alloc::Global;
 
@@ -20,19 +21,13 @@ pub struct Cut<'a> {
     pub rest: &'a [u8],
 }
 
-fn line_length(text: &[u8]) -> usize
-    ensures { result ≡ length (spec.first_line text.now) }
-{
-    text.iter().take_while(|c| **c != b'\n').count()
-}
-
 /// Cuts the first line off a text that is not empty.
 pub fn cut_line(text: &[u8]) -> Cut<'_>
     requires { 0 < length text.now }
     ensures lines { spec.lines_of text.now ≡ result.line.now ∷ spec.lines_of result.rest.now }
     ensures shorter { length result.rest.now < length text.now }
 {
-    let n = line_length(text);
+    let n = length_before(b'\n', text);
     let line = &text[..n];
     if n < text.len() {
         Cut {

@@ -1,9 +1,10 @@
 -- Tokens from the front on.
-use Rattle.std.proofs.Common.{◌≡◌, ℕ, zero, suc, ◌+◌, ◌-◌, ◌<◌, ◌≤◌, Bool, true, false, List, [], ◌∷◌, ◌++◌, length, take, drop, get_or, take_while, refl, ap, sym, ◌∙◌, cond, arith, add-one, map, append_assoc, append-nil, drop-cons}
+use Rattle.std.proofs.Common.{◌≡◌, ℕ, zero, suc, ◌+◌, ◌-◌, ◌<◌, ◌≤◌, Bool, true, false, List, [], ◌∷◌, ◌++◌, length, take, drop, get_or, take_while, refl, ap, sym, ◌∙◌, cond, not, arith, add-one, map, append_assoc, append-nil, drop-cons, Option, None, Some, unwrap_or}
 use Rattle.std.proofs.Math.Dec.{eqb-suc-zero}
 use Rattle.std.proofs.Math.Seq.{take-length}
 use Rattle.std.proofs.Common.{nat_lt, ◌||◌, ◌==◌}
-use Rattle.std.proofs.lemmas.Bool.{lt-ltb, le-ltb}
+use Rattle.std.proofs.lemmas.Bool.{lt-ltb, le-ltb, false_from_ne_true}
+use Rattle.memchr.specs.Find.{IsFirstByte}
 use Rattle.std.proofs.lemmas.List.{drop_all, drop-map, length-drop}
 use Rattle.fr_syntax.specs.declared.token.Placed.{Placed}
 use Rattle.std.proofs.lemmas.List.Sums.{take_while-cons}
@@ -28,6 +29,22 @@ length-take_while p [] = omega arith
 length-take_while p (x ∷ xs) = rw (take_while-cons p x xs) (within_by x xs (take_while p xs) (p x) (length-take_while p xs))
 
 pub ruleset fronts = (take-take_while, length-take_while)
+
+-- the first byte that passes a test, or the end, tells how many stand before it
+module _ (p : ℕ → Bool) where
+  is_before : (xs : List ℕ) (k : ℕ) → k ≤ length xs → ((i : ℕ) → i < k → ¬ (p (get_or xs i 0) ≡ true)) → (k < length xs → p (get_or xs k 0) ≡ true) → k ≡ length (take_while (λ c. not (p c)) xs)
+  is_before [] k l none here = omega (arith, l)
+  is_before (x ∷ xs) zero l none here =
+      let q : ℕ → Bool = λ c. not (p c) in
+      sym (ap length (take_while-cons q x xs ∙ ap (λ b. cond (not b) (x ∷ take_while q xs) []) (here (omega arith))))
+  is_before (x ∷ xs) (suc k) l none here =
+      let q : ℕ → Bool = λ c. not (p c) in
+      ap suc (is_before xs k (omega (arith, l)) (λ i a. none (suc i) (omega (arith, a))) (λ a. here (omega (arith, a))))
+      ∙ sym (ap length (take_while-cons q x xs ∙ ap (λ b. cond (not b) (x ∷ take_while q xs) []) (false_from_ne_true (p x) (none 0 (omega arith)))))
+
+  pub first_is_before : (xs : List ℕ) (r : Option ℕ) → IsFirstByte p xs r → unwrap_or r (length xs) ≡ length (take_while (λ c. not (p c)) xs)
+  first_is_before xs None h = is_before xs (length xs) (omega arith) (λ i l. h i (omega arith) l) (λ l. absurd (omega (arith, l)))
+  first_is_before xs (Some k) h = is_before xs k (omega (arith, h.0.high)) (λ i l. h.0.before i (omega arith) l) (λ l. h.1)
 
 skip : (p k : ℕ) (cs : List ℕ) → tokens_at p k cs ≡ tokens_at (p + k) 0 (drop k cs)
 skip p zero cs = ap (λ q. tokens_at q 0 cs) (omega arith)

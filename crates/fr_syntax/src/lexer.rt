@@ -1,12 +1,13 @@
 //! The text of a line, and its tokens.
 
-ghost use Rattle.std.specs.Prelude.{◌≡◌, ◌<◌, ◌≤◌, ◌+◌, ◌-◌, ◌∷◌, ℕ, false, IfOk, map, length, drop, take_while, slice_index};
+ghost use Rattle.std.specs.Prelude.{◌≡◌, ◌==◌, ◌<◌, ◌≤◌, ◌+◌, ◌-◌, ◌∷◌, ℕ, false, not, IfOk, map, length, drop, take_while, slice_index};
 ghost use Rattle.fr_syntax.specs.Tokens.{seen};
 ghost use Rattle.fr_syntax.specs.Lines as spec;
 ghost use Rattle.fr_syntax.specs.Fronts.{IsFront};
 
 use crate::token::{Mark, Placed, Token};
 use fr_alphabet::NoMemory;
+use memchr::memchr;
 use std::alloc::Global;
 
 fn without_return(line: &[u8]) -> &[u8]
@@ -19,17 +20,18 @@ fn without_return(line: &[u8]) -> &[u8]
     }
 }
 
-fn length_before_comment(line: &[u8]) -> usize
-    ensures { result ≡ length (spec.before_comment line.now) }
+/// How many bytes stand before the first that is `byte`: all of them, where there is none.
+pub fn length_before(byte: u8, text: &[u8]) -> usize
+    ensures { result ≡ length (take_while (λ c. not (c == byte)) text.now) }
 {
-    line.iter().take_while(|c| **c != b'#').count()
+    memchr(byte, text).unwrap_or(text.len())
 }
 
 #[tactic(auto, using(crate::proofs::LexerLaws::fronts))]
 fn before_comment(line: &[u8]) -> &[u8]
     ensures { result.now ≡ spec.before_comment line.now }
 {
-    let length = length_before_comment(line);
+    let length = length_before(b'#', line);
     &line[..length]
 }
 

@@ -30,7 +30,7 @@ mod unfinished;
 
 pub use keyword::Keyword;
 pub use laws::{lines_are_small, lines_are_unambiguous, lines_fit, recursions_are_unambiguous};
-pub use lexer::{LineFront, code, line_front, tokens};
+pub use lexer::{LineFront, code, length_before, line_front, tokens};
 pub use line::{Line, LineReading, ReadLine, read_tokens};
 pub use name::Name;
 pub use nesting::{NESTING_LIMIT, passes_nesting};
