@@ -4,7 +4,8 @@ ghost use Rattle.std.specs.Prelude.{◌<◌, ◌≤◌};
 
 use crate::answer::{Answer, Stop};
 use crate::builder::{Builder, nexts};
-use fr_machine::{Machine, classes};
+use fr_classes::classes;
+use fr_machine::Machine;
 use std::alloc::Global;
 
 /// Counts the classes of a machine, so many times.

@@ -6,7 +6,7 @@ use Rattle.fr_model.specs.FreeWords.{IsClosurePassed}
 use Rattle.fr_machine.specs.declared.row.Row.{Row}
 use Rattle.fr_machine.specs.Rows.{row_term}
 use Rattle.fr_machine.specs.Machine.{MachineView}
-use Rattle.fr_machine.specs.Classes.{AreClasses}
+use Rattle.fr_classes.specs.Classes.{AreClasses}
 use Rattle.fr_minimal.specs.declared.smallest.MinFault.{MinFault}
 use Rattle.fr_minimal.specs.declared.smallest.MinFault.TheVariants.{StatesPassed, NoMemory}
 use Rattle.fr_block.specs.declared.elements.NameFault.{NameFault}

@@ -15,12 +15,13 @@ use Rattle.fr_model.proofs.CodeLaws.{alike_from_code, IsCode-alike}
 use Rattle.fr_model.specs.Ranks.{rank}
 use Rattle.fr_machine.specs.declared.row.Row.{Row}
 use Rattle.fr_machine.specs.Rows.{state_of, states_of, row_term, IsMachine}
-use Rattle.fr_machine.specs.Classes.{row_at}
+use Rattle.fr_machine.specs.Rows.{row_at}
 use Rattle.fr_machine.specs.Minimal.{AreUnlike}
 use Rattle.fr_machine.specs.Walks.{WalkView, IsKeys, IsNumbered, walk_after, Extends}
 use Rattle.fr_machine.proofs.RowLaws.{IsAutomaton-states_of, length-states_of, IsTerm-row_term, row_valid}
 use Rattle.fr_machine.proofs.WalkLaws.{Extends-refl, Extends-numbered, Extends-trans}
-use Rattle.fr_machine.proofs.OrderLaws.{IsOrdered, IsOrdered-known, IsOrdered-new, IsOrdered-row}
+use Rattle.fr_machine.specs.Orders.{IsOrdered}
+use Rattle.fr_machine.proofs.OrderLaws.{IsOrdered-known, IsOrdered-new, IsOrdered-row}
 use Rattle.fr_machine.proofs.CanonLaws.{IsCanonical-walked}
 use Rattle.fr_canon.specs.Listings.{row_output, IsNextPart, IsStateOf, IsKeyListed, IsRowListed, IsListed}
 

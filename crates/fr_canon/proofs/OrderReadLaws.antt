@@ -7,7 +7,7 @@ use Rattle.std.proofs.lemmas.List.Elements.{Contains-append_left, Contains-push,
 use Rattle.std.proofs.lemmas.Grind.{flat_map-append}
 use Rattle.std.proofs.lemmas.Bool.{cases_lt}
 use Rattle.fr_model.specs.Automata.{State, state_at, IsState, IsAutomaton}
-use Rattle.fr_machine.specs.Numberings.{IsNumberedFrom}
+use Rattle.fr_classes.specs.Numberings.{IsNumberedFrom}
 use Rattle.fr_machine.specs.declared.row.Row.{Row}
 use Rattle.fr_machine.specs.Rows.{IsMachine, states_of}
 use Rattle.fr_machine.proofs.RowLaws.{state_at_row, row_is}

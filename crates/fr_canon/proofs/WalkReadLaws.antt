@@ -13,11 +13,12 @@ use Rattle.fr_model.proofs.PermutationLaws.{get_or-numbers_from, length-numbers_
 use Rattle.fr_machine.specs.declared.row.Row.{Row}
 use Rattle.fr_machine.specs.Rows.{IsMachine, row_term, states_of}
 use Rattle.fr_machine.specs.Minimal.{AreUnlike, AreReached}
-use Rattle.fr_machine.specs.Numberings.{IsNumberedFrom}
-use Rattle.fr_machine.specs.Classes.{AreClasses}
+use Rattle.fr_classes.specs.Numberings.{IsNumberedFrom}
+use Rattle.fr_classes.specs.Classes.{AreClasses}
 use Rattle.fr_machine.specs.Walks.{IsKeys}
 use Rattle.fr_machine.proofs.RowLaws.{IsAutomaton-states_of, length-states_of}
-use Rattle.fr_machine.proofs.OrderLaws.{IsOrdered, IsOrdered-known, IsOrdered-new, IsOrdered-row}
+use Rattle.fr_machine.specs.Orders.{IsOrdered}
+use Rattle.fr_machine.proofs.OrderLaws.{IsOrdered-known, IsOrdered-new, IsOrdered-row}
 use Rattle.fr_canon.specs.Listings.{row_output, IsListed}
 use Rattle.fr_canon.specs.Texts.{machine_text}
 use Rattle.fr_canon.specs.Readings.{met_before, IsInOrder, IsFirstRepeated, IsMachineText}

@@ -4,7 +4,7 @@ use Rattle.fr_model.specs.Automata.{State, state_at}
 use Rattle.fr_machine.specs.declared.row.Row.{Row}
 use Rattle.fr_machine.specs.Rows.{state_of}
 use Rattle.fr_machine.specs.Walks.{WalkView, Extends}
-use Rattle.fr_machine.proofs.OrderLaws.{IsOrdered}
+use Rattle.fr_machine.specs.Orders.{IsOrdered}
 
 -- what a state of a machine puts out
 abbrev pub row_output : List State → ℕ → List ℕ

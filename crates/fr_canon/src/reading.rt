@@ -5,14 +5,15 @@ ghost use Rattle.fr_model.specs.Terms.{Term, IsTerm};
 ghost use Rattle.fr_model.specs.Automata.{State};
 ghost use Rattle.fr_model.specs.Canonical.{IsCanonical};
 ghost use Rattle.fr_machine.specs.Rows.{IsMachine, IsRow, row_term, states_of};
-ghost use Rattle.fr_machine.specs.Numberings.{IsNumberedFrom};
+ghost use Rattle.fr_classes.specs.Numberings.{IsNumberedFrom};
 ghost use Rattle.fr_canon.specs.Texts.{machine_text};
 ghost use Rattle.fr_canon.specs.Readings.{IsSyntaxFault, IsInOrder, IsFirstOutOfOrder, IsFirstRepeated, IsReadFault};
 
 use crate::fault::ReadFault;
 use crate::lines::{read_count, read_state, split_line};
 use fr_alphabet::Alphabet;
-use fr_machine::{Machine, Minimal, Row, classes};
+use fr_classes::classes;
+use fr_machine::{Machine, Minimal, Row};
 use std::alloc::Global;
 
 // Reads the rows of a machine from its lines.

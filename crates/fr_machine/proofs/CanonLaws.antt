@@ -10,7 +10,8 @@ use Rattle.fr_model.proofs.TermLaws.{IsWord-append}
 use Rattle.fr_model.proofs.CanonicalLaws.{shortlex_trans, shortlex_irrefl}
 use Rattle.fr_machine.specs.Walks.{walk_after}
 use Rattle.fr_machine.proofs.WalkLaws.{walk_after-append}
-use Rattle.fr_machine.proofs.OrderLaws.{IsOrdered, UpTo, walk_least}
+use Rattle.fr_machine.specs.Orders.{IsOrdered, UpTo}
+use Rattle.fr_machine.proofs.OrderLaws.{walk_least}
 
 module _ (d : ℕ) (t : Term) (step : ℕ → ℕ → ℕ) (start : ℕ) (keys : List ℕ) (words : List (List ℕ)) (qs : List State) (h : IsOrdered d step start keys words (length keys) 1) (first : get_or keys 0 0 ≡ start)
     (distinct : (i j : ℕ) → i < length keys → j < length keys → get_or keys i 0 ≡ get_or keys j 0 → i ≡ j)

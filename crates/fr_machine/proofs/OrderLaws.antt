@@ -7,6 +7,7 @@ use Rattle.fr_model.specs.Separation.{IsLexBefore, IsShortlexBefore}
 use Rattle.fr_model.proofs.TermLaws.{IsWord-append}
 use Rattle.fr_model.proofs.CanonicalLaws.{shortlex_trans}
 use Rattle.fr_machine.specs.Walks.{walk_after}
+use Rattle.fr_machine.specs.Orders.{UpTo, word_at, Over, IsOrdered}
 use Rattle.fr_machine.proofs.WalkLaws.{walk_after-append}
 
 -- one letter more
@@ -27,10 +28,6 @@ lex_last (a ∷ u) x y h = inr (refl, lex_last u x y h)
 pub shortlex_last : (u : List ℕ) (x y : ℕ) → x < y → IsShortlexBefore (u ++ x ∷ []) (u ++ y ∷ [])
 shortlex_last u x y h = inr (omega (arith, length_push u x, length_push u y), lex_last u x y h)
 
--- the same word or one before
-abbrev pub UpTo : List ℕ → List ℕ → Type 0
-UpTo v w = (v ≡ w) ⊎ IsShortlexBefore v w
-
 upto_trans : (u v w : List ℕ) → UpTo u v → UpTo v w → UpTo u w
 upto_trans u v w (inl a) (inl b) = inl (a ∙ b)
 upto_trans u v w (inl a) (inr b) = let P : List ℕ → Type 0 = λ t. IsShortlexBefore t w in inr (subst P (sym a) b)
@@ -40,25 +37,6 @@ upto_trans u v w (inr a) (inr b) = inr (shortlex_trans u v w a b)
 upto_push : (u v : List ℕ) (x : ℕ) → UpTo u v → UpTo (u ++ x ∷ []) (v ++ x ∷ [])
 upto_push u v x (inl e) = inl (ap (λ t. t ++ x ∷ []) e)
 upto_push u v x (inr h) = inr (shortlex_push u v x x h)
-
-abbrev word_at : List (List ℕ) → ℕ → List ℕ
-word_at ws i = get_or ws i []
-
--- a letter of a key whose turn is over, where letter x of key j is next
-abbrev Over : ℕ → ℕ → ℕ → ℕ → Type 0
-Over j x i y = (i < j) ⊎ ((i ≡ j) × (y < x))
-
--- words for the keys, in order; x is the letter of key j that is next
-pub record IsOrdered (d : ℕ) (step : ℕ → ℕ → ℕ) (start : ℕ) (keys : List ℕ) (words : List (List ℕ)) (j x : ℕ) : Type 0 where
-  pub count : length words ≡ length keys
-  pub some : 0 < length keys
-  pub none : word_at words 0 ≡ []
-  pub valid : (i : ℕ) → i < length keys → IsWord d (word_at words i)
-  pub own : (i : ℕ) → i < length keys → walk_after step start (word_at words i) ≡ get_or keys i 0
-  pub ascending : (i k : ℕ) → i < k → k < length keys → IsShortlexBefore (word_at words i) (word_at words k)
-  pub made : (i : ℕ) → i < length keys → (word_at words i ≡ []) ⊎ ((h y : ℕ) × (h < length keys) × (word_at words i ≡ word_at words h ++ y ∷ []) × Over j x h y)
-  pub met : (i y : ℕ) → i < length keys → IsLetter d y → Over j x i y → (k : ℕ) × (k < length keys) × (get_or keys k 0 ≡ step (get_or keys i 0) y)
-  pub passed : (i y k : ℕ) → i < length keys → IsLetter d y → Over j x i y → k < length keys → get_or keys k 0 ≡ step (get_or keys i 0) y → UpTo (word_at words k) (word_at words i ++ y ∷ [])
 
 nil_before : (u : List ℕ) (x : ℕ) → IsShortlexBefore [] (u ++ x ∷ [])
 nil_before u x = inl (omega (arith, length_push u x))

@@ -1,15 +1,6 @@
 pub mod Rows
 pub mod Machine
-pub mod Numberings
-pub mod Classes
-pub mod Refinement
 pub mod Walks
+pub mod Orders
 pub mod Minimal
 pub mod Inverses
-pub mod Members
-pub mod Predecessors
-pub mod KeyTables
-pub mod Sparse
-pub mod Hashes
-pub mod Guesses
-pub mod Growing

@@ -36,3 +36,8 @@ pub record IsMachine (d : ℕ) (rows : List Row) : Type 0 where
 -- the row at a place
 abbrev pub row_at : List Row → ℕ → Row
 row_at rows s = slice_index_or rows s (record { perm = []; next = [] })
+
+-- the first rows are these
+pub record IsLonger (old rows : List Row) : Type 0 where
+  pub least : length old ≤ length rows
+  pub same : (s : ℕ) → s < length old → row_at rows s ≡ row_at old s

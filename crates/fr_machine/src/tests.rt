@@ -1,6 +1,6 @@
 //! Small machines whose answers are known by hand.
 
-use crate::{FixedWalk, GrowingClasses, Machine, Minimal, Row, Walk, classes, classes_within};
+use crate::{FixedWalk, Machine, Minimal, Row, Walk};
 use fr_alphabet::{Alphabet, NoMemory, Perm, Word};
 use std::alloc::Global;
 use std::test::Fail;
@@ -45,64 +45,6 @@ fn one_is_added_and_taken_away(rt: HostRuntime) -> Result<(), Fail> {
     assert_eq!(rt; m.section(0, &twos), 0);
     let n = m.inverse(alloc)?;
     assert_eq!(rt; n.act(alloc, 0, &ones)?.letters(), [2, 2].as_slice());
-    Ok(())
-}
-
-#[test]
-fn like_rows_share_a_class(rt: HostRuntime) -> Result<(), Fail> {
-    let alloc = rt.alloc();
-    let a = Alphabet::new(2).ok_or("letters")?;
-    let swap = Perm::of_images(a, &[2, 1]).ok_or("images")?;
-    let mut rows = adding(alloc, a, swap, 0)?;
-    rows.push(row(swap, 1, 2))?;
-    let m = Machine::new(a, rows).ok_or("rows")?;
-    assert_eq!(rt; classes(alloc, &m)?.as_slice(), [0, 1, 0].as_slice());
-    assert_eq!(rt;
-        classes(alloc, &m.copy(alloc)?)?.as_slice(),
-        [0, 1, 0].as_slice()
-    );
-    assert!(rt; classes_within(alloc, &m, 1)?.is_none());
-    assert!(rt; classes_within(alloc, &m, 2)?.is_some());
-    Ok(())
-}
-
-#[test]
-fn classes_grow(rt: HostRuntime) -> Result<(), Fail> {
-    let alloc = rt.alloc();
-    let a = Alphabet::new(2).ok_or("letters")?;
-    let swap = Perm::of_images(a, &[2, 1]).ok_or("images")?;
-    let mut rows = adding(alloc, a, swap, 0)?;
-    rows.push(row(swap, 1, 2))?;
-    let m = Machine::new(a, rows).ok_or("rows")?;
-    let mut growing = GrowingClasses::new(alloc)?;
-    growing.extend(alloc, &m)?;
-    assert!(rt; growing.is_stable());
-    assert_eq!(rt; growing.guess(&m), [0, 1, 0].as_slice());
-    assert_eq!(rt;
-        growing.classes(alloc, &m)?.as_slice(),
-        [0, 1, 0].as_slice()
-    );
-    Ok(())
-}
-
-#[test]
-fn long_words_tell_rows_of_a_cycle(rt: HostRuntime) -> Result<(), Fail> {
-    let alloc = rt.alloc();
-    let a = Alphabet::new(2).ok_or("letters")?;
-    let swap = Perm::of_images(a, &[2, 1]).ok_or("images")?;
-    let mut rows = Vec::new(alloc);
-    for s in 1..12 {
-        rows.push(row(Perm::identity(a), s, s))?;
-    }
-    rows.push(row(swap, 0, 0))?;
-    let m = Machine::new(a, rows).ok_or("rows")?;
-    let mut growing = GrowingClasses::new(alloc)?;
-    growing.extend(alloc, &m)?;
-    assert!(rt; growing.is_stable());
-    assert_eq!(rt;
-        growing.guess(&m),
-        [0, 1, 2, 3, 4, 5, 6, 7, 8, 9, 10, 11].as_slice()
-    );
     Ok(())
 }
 

@@ -14,8 +14,8 @@ use Rattle.fr_model.proofs.AutomatonLaws.{state_is, section_state, next_state-lt
 use Rattle.fr_model.proofs.ClassLaws.{IsSize-minimal, IsSize-alike, HasMoreStates-lt}
 use Rattle.fr_machine.specs.declared.row.Row.{Row}
 use Rattle.fr_machine.specs.Rows.{state_of, states_of, row_term, IsMachine}
-use Rattle.fr_machine.specs.Numberings.{IsNumberedFrom}
-use Rattle.fr_machine.specs.Classes.{row_at, AreClasses}
+use Rattle.fr_classes.specs.Numberings.{IsNumberedFrom}
+use Rattle.fr_classes.specs.Classes.{row_at, AreClasses}
 use Rattle.fr_machine.specs.Minimal.{AreReached, AreUnlike, IsMinimal}
 use Rattle.fr_machine.specs.Walks.{IsKeys, walk_after, IsBuilt, Reached, IsRowPassed}
 use Rattle.fr_machine.proofs.RowLaws.{IsAutomaton-states_of, length-states_of}

@@ -11,7 +11,7 @@ use Rattle.fr_model.proofs.ClassLaws.{IsSize-alike}
 use Rattle.fr_model.proofs.CountLaws.{words_of, length-words_of, words_of-at}
 use Rattle.fr_machine.specs.declared.row.Row.{Row}
 use Rattle.fr_machine.specs.Rows.{states_of, row_term, IsMachine}
-use Rattle.fr_machine.specs.Classes.{HasMoreClasses}
+use Rattle.fr_classes.specs.Classes.{HasMoreClasses}
 use Rattle.fr_machine.specs.Minimal.{AreReached}
 use Rattle.fr_machine.specs.Walks.{IsKeys, IsBuilt}
 use Rattle.fr_machine.proofs.RowLaws.{IsAutomaton-states_of, length-states_of}

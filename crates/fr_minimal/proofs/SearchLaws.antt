@@ -14,7 +14,8 @@ use Rattle.fr_model.proofs.AutomatonLaws.{act-state_term, act-state_letter, sect
 use Rattle.fr_model.proofs.CanonicalLaws.{shortlex_trans, shortlex_irrefl}
 use Rattle.fr_machine.specs.Walks.{walk_after}
 use Rattle.fr_machine.proofs.WalkLaws.{walk_after-append}
-use Rattle.fr_machine.proofs.OrderLaws.{UpTo, IsOrdered, shortlex_push, walk_least}
+use Rattle.fr_machine.specs.Orders.{UpTo, IsOrdered}
+use Rattle.fr_machine.proofs.OrderLaws.{shortlex_push, walk_least}
 use Rattle.fr_minimal.specs.Searches.{both_next, left_output, right_output, IsLeastDifference}
 
 -- ---- shortlex order

@@ -4,7 +4,7 @@ use Rattle.std.specs.Prelude.{ℕ, ◌≡◌, ◌≢◌, ◌<◌, ◌≤◌, ◌
 use Rattle.fr_model.specs.Words.{IsLetter}
 use Rattle.fr_model.specs.Permutations.{image}
 use Rattle.fr_model.specs.Automata.{State, state_at, next_state}
-use Rattle.fr_machine.proofs.OrderLaws.{IsOrdered}
+use Rattle.fr_machine.specs.Orders.{IsOrdered}
 use Rattle.fr_minimal.specs.declared.search.Met.{Met}
 
 -- a pair of rows is its place in a table of a row for each row of the first; one letter leads both on

@@ -3,7 +3,7 @@
 ghost use Rattle.std.specs.Prelude.{[], ◌∷◌, ◌≡◌, ◌<◌, ◌≤◌, ◌⊎◌, IfOk, IfErr, IsErrOf, OnOk, length};
 ghost use Rattle.std.specs.List.{All};
 ghost use Rattle.fr_model.specs.Words.{IsLetter};
-ghost use Rattle.fr_machine.specs.Classes.{AreClasses};
+ghost use Rattle.fr_classes.specs.Classes.{AreClasses};
 ghost use Rattle.fr_machine.specs.Walks.{IsRowMade, IsRowPassed};
 ghost use Rattle.fr_machine.specs.Rows.{row_term, states_of};
 ghost use Rattle.fr_model.specs.Classes.{HasMoreStates};
@@ -11,7 +11,8 @@ ghost use Rattle.fr_minimal.specs.Smallest.{IsSmallest, IsChoice, chosen_of, cho
 
 use crate::reached::reached;
 use fr_alphabet::NoMemory;
-use fr_machine::{Machine, Minimal, Row, STATE_LIMIT, Walk, classes_within};
+use fr_classes::classes_within;
+use fr_machine::{Machine, Minimal, Row, STATE_LIMIT, Walk};
 use std::alloc::{AllocError, AllocFailed, Global};
 use thiserror::Error;
 

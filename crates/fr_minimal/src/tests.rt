@@ -2,7 +2,8 @@
 
 use super::*;
 use fr_alphabet::{Alphabet, NoMemory, Perm, Word};
-use fr_machine::{Machine, Row, classes};
+use fr_classes::classes;
+use fr_machine::{Machine, Row};
 use std::alloc::Global;
 use std::test::Fail;
 

@@ -6,8 +6,8 @@ use Rattle.fr_model.specs.Terms.{IsAlike}
 use Rattle.fr_machine.specs.declared.row.Row.{Row}
 use Rattle.fr_machine.specs.Rows.{row_term, IsRow, IsMachine, row_at}
 use Rattle.fr_machine.proofs.RowLaws.{IsRow-filled, IsMachine-rows, row_valid}
-use Rattle.fr_machine.specs.Numberings.{IsNumberedFrom}
-use Rattle.fr_machine.specs.Classes.{AreClasses}
+use Rattle.fr_classes.specs.Numberings.{IsNumberedFrom}
+use Rattle.fr_classes.specs.Classes.{AreClasses}
 use Rattle.fr_nucleus.specs.Joining.{IsRenumbered, AreJoined, AreReduced}
 use Rattle.fr_nucleus.proofs.NextLaws.{IsFilling, row_at_old, row_at_new, alike_rows, alike_perms, alike_nexts, row_zero, leads-lt}
 

@@ -8,8 +8,8 @@ use Rattle.fr_model.specs.Automata.{IsLimitState}
 use Rattle.fr_model.specs.Terms.{IsAlike}
 use Rattle.fr_machine.specs.declared.row.Row.{Row}
 use Rattle.fr_machine.specs.Rows.{row_term, states_of, IsRow, IsMachine, row_at}
-use Rattle.fr_machine.specs.Classes.{AreClasses}
-use Rattle.fr_machine.specs.Hashes.{AreInvariant}
+use Rattle.fr_classes.specs.Classes.{AreClasses}
+use Rattle.fr_classes.specs.Hashes.{AreInvariant}
 use Rattle.fr_machine.specs.Walks.{WalkView, IsNumbered, IsKeys, Extends}
 use Rattle.fr_machine.proofs.WalkLaws.{Extends-numbered, Extends-trans}
 use Rattle.fr_minimal.specs.Smallest.{IsChoice}

@@ -7,8 +7,8 @@ use Rattle.fr_model.specs.Classes.{HasMoreThan}
 use Rattle.fr_model.proofs.AlikeLaws.{alike_sym, alike_trans}
 use Rattle.fr_machine.specs.declared.row.Row.{Row}
 use Rattle.fr_machine.specs.Rows.{row_term}
-use Rattle.fr_machine.specs.Numberings.{IsNumberedFrom}
-use Rattle.fr_machine.specs.Classes.{AreClasses, HasMoreClasses}
+use Rattle.fr_classes.specs.Numberings.{IsNumberedFrom}
+use Rattle.fr_classes.specs.Classes.{AreClasses, HasMoreClasses}
 use Rattle.fr_machine.specs.Minimal.{AreUnlike}
 use Rattle.fr_machine.specs.Inverses.{AreInverses}
 use Rattle.fr_nucleus.specs.Rows.{HasRow, AreFewRows}

@@ -6,7 +6,7 @@ use Rattle.fr_model.specs.Automata.{IsLimitState}
 use Rattle.fr_model.specs.Classes.{HasMoreThan}
 use Rattle.fr_model.specs.Nuclei.{IsNucleusMember}
 use Rattle.fr_machine.specs.declared.row.Row.{Row}
-use Rattle.fr_machine.specs.Classes.{AreClasses}
+use Rattle.fr_classes.specs.Classes.{AreClasses}
 use Rattle.fr_machine.specs.Rows.{IsMachine, row_term, states_of, row_at}
 use Rattle.fr_machine.specs.Minimal.{AreUnlike}
 use Rattle.fr_machine.specs.Walks.{IsKeys, Extends}

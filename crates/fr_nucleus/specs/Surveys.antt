@@ -1,7 +1,7 @@
 -- What is known of products: their classes, and which of them are reached from cycles. This project's own.
 use Rattle.std.specs.Prelude.{ℕ, List, if◌then◌else◌}
 use Rattle.fr_machine.specs.declared.row.Row.{Row}
-use Rattle.fr_machine.specs.Growing.{IsGrowing}
+use Rattle.fr_classes.specs.Growing.{IsGrowing}
 use Rattle.fr_product.specs.Growing.{AreLimitsOf}
 use Rattle.fr_nucleus.specs.declared.survey.Survey.{Survey}
 

@@ -2,7 +2,7 @@
 
 ghost use Rattle.std.specs.Prelude.{◌≡◌, ◌<◌, ◌≤◌, ◌⊎◌, List, IfOk, IfErr, OnOk, length};
 ghost use Rattle.fr_machine.specs.declared.row.Row.{Row};
-ghost use Rattle.fr_machine.specs.Growing.{IsLonger};
+ghost use Rattle.fr_machine.specs.Rows.{IsLonger};
 ghost use Rattle.fr_nucleus.specs.Rows.{AreFewRows};
 ghost use Rattle.fr_nucleus.specs.Products.{IsProductTable};
 ghost use Rattle.fr_nucleus.specs.Numberings.{AreMembers, IsNumberingOf, IsClosure, HasMoreOf};

@@ -2,7 +2,7 @@
 
 ghost use Rattle.std.specs.Prelude.{◌≡◌, ℕ, ◌<◌, ◌≤◌, ◌+◌, IfOk, length, slice_index};
 ghost use Rattle.fr_machine.specs.Rows.{IsRow};
-ghost use Rattle.fr_machine.specs.Classes.{AreClasses};
+ghost use Rattle.fr_classes.specs.Classes.{AreClasses};
 ghost use Rattle.fr_nucleus.specs.Joining.{IsRenumbered, AreJoined, AreReduced};
 
 use fr_alphabet::NoMemory;

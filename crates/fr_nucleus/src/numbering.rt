@@ -4,7 +4,7 @@ ghost use Rattle.std.specs.Prelude.{◌≡◌, ◌≢◌, ℕ, ◌<◌, ◌≤�
 ghost use Rattle.std.specs.List.{All, Contains};
 ghost use Rattle.fr_model.specs.Terms.{IsAlike};
 ghost use Rattle.fr_machine.specs.Rows.{IsRow, row_term, row_at};
-ghost use Rattle.fr_machine.specs.Classes.{AreClasses};
+ghost use Rattle.fr_classes.specs.Classes.{AreClasses};
 ghost use Rattle.fr_machine.specs.Walks.{IsKeys};
 ghost use Rattle.fr_minimal.specs.Smallest.{IsChoice};
 ghost use Rattle.fr_nucleus.specs.Numberings.{AreOutside, IsMemberRow, IsNumberedClass, IsTooMany, AreKnown, AreNumbered, IsFull, IsNumberingOf, IsOverfull, AreGrown};

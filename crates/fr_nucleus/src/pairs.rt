@@ -2,7 +2,7 @@
 
 ghost use Rattle.std.specs.Prelude.{◌≡◌, ◌<◌, ◌≤◌, ◌*◌, ◌/◌, ◌%◌, IfOk, OnOk, length};
 ghost use Rattle.fr_machine.specs.Rows.{row_at};
-ghost use Rattle.fr_machine.specs.Growing.{IsLonger};
+ghost use Rattle.fr_machine.specs.Rows.{IsLonger};
 ghost use Rattle.fr_nucleus.specs.Products.{IsProductOfRows, AreProductRows, IsProductTable};
 
 use fr_alphabet::NoMemory;

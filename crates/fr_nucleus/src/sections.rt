@@ -10,7 +10,8 @@ ghost use Rattle.fr_nucleus.specs.Faults.{IsSectionFault};
 
 use crate::fault::NucleusFault;
 use crate::joining::{joined, reduced};
-use fr_machine::{Machine, Minimal, classes_within};
+use fr_classes::classes_within;
+use fr_machine::{Machine, Minimal};
 use std::alloc::Global;
 
 // The most elements that are sections of generators.

@@ -2,12 +2,13 @@
 
 ghost use Rattle.std.specs.Prelude.{ℕ, ◌≡◌, List, [], IfOk, OnOk};
 ghost use Rattle.fr_machine.specs.declared.row.Row.{Row};
-ghost use Rattle.fr_machine.specs.Classes.{AreClasses};
-ghost use Rattle.fr_machine.specs.Growing.{IsLonger};
+ghost use Rattle.fr_classes.specs.Classes.{AreClasses};
+ghost use Rattle.fr_machine.specs.Rows.{IsLonger};
 ghost use Rattle.fr_nucleus.specs.Surveys.{IsSurvey, classes_of};
 
 use fr_alphabet::NoMemory;
-use fr_machine::{GrowingClasses, Machine};
+use fr_classes::GrowingClasses;
+use fr_machine::Machine;
 use fr_product::GrowingLimits;
 use std::alloc::Global;
 

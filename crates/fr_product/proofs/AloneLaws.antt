@@ -10,7 +10,7 @@ use Rattle.fr_model.specs.Automata.{State, next_state, state_after, IsAutomaton,
 use Rattle.fr_model.proofs.AutomatonLaws.{next_state-lt}
 use Rattle.fr_machine.specs.declared.row.Row.{Row}
 use Rattle.fr_machine.specs.Rows.{states_of, row_at, IsRow, IsMachine}
-use Rattle.fr_machine.specs.Growing.{IsLonger}
+use Rattle.fr_machine.specs.Rows.{IsLonger}
 use Rattle.fr_machine.proofs.RowLaws.{IsAutomaton-states_of, length-states_of, next_is, row_valid, IsRow-filled, IsMachine-rows}
 use Rattle.fr_product.specs.Spreading.{AreClosed, AreAlone, renumbered}
 

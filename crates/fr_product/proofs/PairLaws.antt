@@ -16,7 +16,7 @@ use Rattle.fr_model.proofs.TermLaws.{act-IsWord}
 use Rattle.fr_model.proofs.ConstructionLaws.{product_alike}
 use Rattle.fr_machine.specs.declared.row.Row.{Row}
 use Rattle.fr_machine.specs.Rows.{state_of, states_of, row_term, IsMachine}
-use Rattle.fr_machine.specs.Classes.{row_at}
+use Rattle.fr_machine.specs.Rows.{row_at}
 use Rattle.fr_machine.specs.Minimal.{AreReached, IsMinimal}
 use Rattle.fr_machine.specs.Walks.{IsKeys, walk_after, IsBuilt, Reached, IsRowPassed}
 use Rattle.fr_machine.proofs.RowLaws.{IsAutomaton-states_of, length-states_of}

@@ -8,7 +8,7 @@ use Rattle.fr_model.specs.Automata.{State, state_at, next_state, state_after, Is
 use Rattle.fr_model.proofs.AutomatonLaws.{next_state-lt}
 use Rattle.fr_machine.specs.declared.row.Row.{Row}
 use Rattle.fr_machine.specs.Rows.{states_of, IsRow, IsMachine}
-use Rattle.fr_machine.specs.Growing.{IsLonger}
+use Rattle.fr_machine.specs.Rows.{IsLonger}
 use Rattle.fr_machine.proofs.RowLaws.{IsAutomaton-states_of, length-states_of}
 use Rattle.fr_product.specs.Limits.{IsIn, AreLimitRows}
 use Rattle.fr_product.specs.Spreading.{AreAlone, IsSpreading, unmarked}

@@ -3,7 +3,7 @@
 ghost use Rattle.std.specs.Prelude.{◌≡◌, ◌<◌, ◌≤◌, ◌+◌, ◌⊎◌, ◌++◌, ℕ, List, [], ◌∷◌, IfOk, OnOk, length, true, false, slice_index_or, slice_set};
 ghost use Rattle.fr_model.specs.Automata.{state_at};
 ghost use Rattle.fr_machine.specs.declared.row.Row.{Row};
-ghost use Rattle.fr_machine.specs.Growing.{IsLonger};
+ghost use Rattle.fr_machine.specs.Rows.{IsLonger};
 ghost use Rattle.fr_machine.specs.Rows.{states_of};
 ghost use Rattle.fr_product.specs.Growing.{AreLimitsOf};
 ghost use Rattle.fr_product.specs.Limits.{AreLimitRows};

@@ -1,7 +1,7 @@
 //! The adding machine times itself.
 
 ghost use Rattle.std.specs.Prelude.{◌≡◌, IfOk, length};
-ghost use Rattle.fr_machine.specs.Growing.{IsLonger};
+ghost use Rattle.fr_machine.specs.Rows.{IsLonger};
 
 use super::*;
 use fr_alphabet::{Alphabet, NoMemory, Perm};

@@ -1,6 +1,6 @@
 use Rattle.std.proofs.Common.{ℕ, arith, ◌∙◌, ap, sym, subst, List}
 use Rattle.fr_machine.specs.Rows.{states_of}
-use Rattle.fr_machine.specs.Numberings.{IsNumberedFrom}
+use Rattle.fr_classes.specs.Numberings.{IsNumberedFrom}
 use Rattle.fr_machine.proofs.RowLaws.{IsAutomaton-states_of, length-states_of}
 use Rattle.fr_canon.proofs.OrderReadLaws.{met_with, unmet, too_far, IsOrderRead-more, next_of_row}
 use Rattle.fr_canon.proofs.reading.first_out_of_order.Goals as goal

@@ -1,6 +1,6 @@
 use Rattle.std.proofs.Common.{suc, ◌≡◌, ◌≤◌, take}
 use Rattle.std.specs.Prelude.{fold, max}
-use Rattle.fr_machine.specs.Numberings.{IsNumberedFrom}
+use Rattle.fr_classes.specs.Numberings.{IsNumberedFrom}
 use Rattle.fr_canon.proofs.reading.met_after.Given as goal
 
 abbrev pub invariant-loop-next : goal.invariant-loop-next

@@ -3,7 +3,7 @@ use Rattle.fr_machine.specs.declared.row.Row.{Row}
 use Rattle.fr_machine.specs.Machine.{MachineView}
 use Rattle.fr_machine.specs.Rows.{states_of}
 use Rattle.fr_machine.specs.Minimal.{AreUnlike, IsMinimal}
-use Rattle.fr_machine.specs.Classes.{AreClasses}
+use Rattle.fr_classes.specs.Classes.{AreClasses}
 use Rattle.fr_canon.specs.Readings.{IsInOrder}
 use Rattle.fr_canon.proofs.WalkReadLaws.{AreReached-read, IsCanonical-read, unlike_from_classes, IsFirstRepeated-from_classes}
 use Rattle.fr_canon.proofs.reading.minimal_of.Goals as goal

@@ -3,7 +3,7 @@ use Rattle.fr_model.specs.Classes.{HasMoreStates}
 use Rattle.fr_model.proofs.AlikeLaws.{alike_sym}
 use Rattle.fr_model.proofs.ClassLaws.{HasMoreStates-alike}
 use Rattle.fr_machine.specs.Rows.{row_term}
-use Rattle.fr_machine.specs.Classes.{HasMoreClasses}
+use Rattle.fr_classes.specs.Classes.{HasMoreClasses}
 use Rattle.fr_minimal.proofs.ReachedLaws.{HasMoreStates-reached, IsSmallest-alike}
 use Rattle.fr_minimal.proofs.smallest.minimize.Goals as goal
 

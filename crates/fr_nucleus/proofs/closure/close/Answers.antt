@@ -1,10 +1,10 @@
 use Rattle.std.proofs.Common.{ℕ, [], List, arith, ap, sym, subst, ◌∙◌, ◌<◌, ◌≤◌, length}
 use Rattle.std.specs.List.{All}
 use Rattle.fr_machine.specs.Rows.{IsMachine}
-use Rattle.fr_machine.specs.Growing.{IsLonger}
+use Rattle.fr_machine.specs.Rows.{IsLonger}
 use Rattle.fr_minimal.proofs.ChoiceLaws.{classes_below}
 use Rattle.fr_nucleus.specs.Products.{AreProductRows}
-use Rattle.fr_machine.specs.Classes.{AreClasses}
+use Rattle.fr_classes.specs.Classes.{AreClasses}
 use Rattle.fr_machine.specs.Walks.{IsKeys}
 use Rattle.fr_nucleus.specs.Numberings.{IsNumberingOf, AreOutside}
 use Rattle.fr_nucleus.specs.Surveys.{IsSurvey, classes_of}

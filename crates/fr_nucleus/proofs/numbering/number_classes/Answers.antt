@@ -2,7 +2,7 @@ use Rattle.std.proofs.Common.{ℕ, arith, ap, sym, subst, ◌≡◌, ◌∙◌, 
 use Rattle.std.proofs.lemmas.Result.{err_from_is_err_and}
 use Rattle.fr_product.specs.Limits.{AreLimitRows}
 use Rattle.fr_minimal.proofs.ChoiceLaws.{classes_below}
-use Rattle.fr_machine.specs.Classes.{AreClasses}
+use Rattle.fr_classes.specs.Classes.{AreClasses}
 use Rattle.fr_machine.specs.Walks.{IsKeys}
 use Rattle.fr_nucleus.specs.declared.fault.NucleusFault.{NucleusFault}
 use Rattle.fr_nucleus.specs.declared.fault.NucleusFault.TheVariants.{NoMemory, Passes}

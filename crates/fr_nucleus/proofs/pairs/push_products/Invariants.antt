@@ -1,5 +1,5 @@
 use Rattle.std.proofs.Common.{◌-◌, ◌≤◌, length}
-use Rattle.fr_machine.specs.Growing.{IsLonger}
+use Rattle.fr_machine.specs.Rows.{IsLonger}
 use Rattle.fr_nucleus.specs.Products.{AreProductRows}
 use Rattle.fr_nucleus.proofs.pairs.push_products.Given as goal
 

@@ -1,5 +1,5 @@
 use Rattle.std.proofs.Common.{ℕ, sym, subst, inr, refl, List}
-use Rattle.fr_machine.specs.Classes.{AreClasses, HasMoreClasses}
+use Rattle.fr_classes.specs.Classes.{AreClasses, HasMoreClasses}
 use Rattle.fr_nucleus.proofs.SectionLaws.{more_from, IsUnion-from}
 use Rattle.fr_nucleus.proofs.sections.with_rows.Goals as goal
 

@@ -2,7 +2,7 @@ use Rattle.std.proofs.Common.{List, [], sym, ap, subst, ◌∙◌, arith}
 use Rattle.std.proofs.lemmas.List.{get_or_append_left}
 use Rattle.fr_machine.specs.declared.row.Row.{Row}
 use Rattle.fr_machine.specs.Rows.{row_at}
-use Rattle.fr_machine.specs.Growing.{IsLonger}
+use Rattle.fr_machine.specs.Rows.{IsLonger}
 use Rattle.fr_product.proofs.tests.grown.Goals as goal
 
 pub loop-first-preserved : goal.loop-first-preserved

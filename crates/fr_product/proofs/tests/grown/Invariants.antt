@@ -1,4 +1,4 @@
-use Rattle.fr_machine.specs.Growing.{IsLonger}
+use Rattle.fr_machine.specs.Rows.{IsLonger}
 use Rattle.fr_product.proofs.tests.grown.Given as goal
 
 abbrev pub invariant-loop-first : goal.invariant-loop-first

@@ -1,5 +1,5 @@
 use Rattle.std.proofs.Common.{sym, subst}
-use Rattle.fr_machine.specs.Classes.{AreClasses}
+use Rattle.fr_classes.specs.Classes.{AreClasses}
 use Rattle.fr_nucleus.specs.declared.survey.Survey.{Survey}
 use Rattle.fr_nucleus.proofs.SurveyLaws.{classes_of-stable, classes_of-refined}
 use Rattle.fr_nucleus.proofs.survey.Survey.refine.Goals as goal

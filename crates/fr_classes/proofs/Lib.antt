@@ -1,0 +1,17 @@
+pub mod CleanCountLaws
+pub mod FindLaws
+pub mod GrowingLaws
+pub mod HashLaws
+pub mod KeyNumberLaws
+pub mod KeyTableLaws
+pub mod LimitLaws
+pub mod MarkLaws
+pub mod MemberLaws
+pub mod PartitionLaws
+pub mod PredecessorLaws
+pub mod SettlingLaws
+pub mod SignatureLaws
+pub mod SparseLaws
+pub mod StartLaws
+pub mod TargetLaws
+pub mod WorkLaws

@@ -1,0 +1,10 @@
+pub mod Numberings
+pub mod Classes
+pub mod Refinement
+pub mod Members
+pub mod Predecessors
+pub mod KeyTables
+pub mod Sparse
+pub mod Hashes
+pub mod Guesses
+pub mod Growing

@@ -1,0 +1,17 @@
+//! Which rows of a machine act alike.
+#![tactic(auto)]
+
+mod growing;
+mod hashes;
+mod key_table;
+mod members;
+mod numbering;
+mod partition;
+mod predecessors;
+mod signature;
+mod sparse;
+#[cfg(test)]
+mod tests;
+
+pub use growing::GrowingClasses;
+pub use partition::{classes, classes_within};

@@ -1,5 +1,0 @@
-use Rattle.fr_machine.specs.Growing.{IsHashed}
-use Rattle.fr_machine.proofs.growing.hash_rows.Given as goal
-
-abbrev pub invariant-loop-s : goal.invariant-loop-s
-invariant-loop-s l = IsHashed l.rows l.first l.k l.s l.fn.hashes.items l.hashes.items

@@ -1,9 +1,0 @@
-use Rattle.std.proofs.Common.{◌≡◌, ◌<◌}
-use Rattle.fr_machine.specs.Hashes.{hash_of}
-use Rattle.fr_machine.proofs.hashes.hash_of.Given as goal
-
-abbrev pub invariant-loop-x : goal.invariant-loop-x
-invariant-loop-x l = record {
-  hash : l.hash ≡ hash_of l.row l.shorter l.x;
-  small : l.hash < 4294967296;
-}

@@ -1,6 +1,0 @@
-use Rattle.std.proofs.Common.{ℕ, ◌<◌}
-use Rattle.fr_machine.specs.Refinement.{work_at, clean_at}
-use Rattle.fr_machine.proofs.partition.Partition.have_clean.Given as goal
-
-abbrev pub invariant-loop-item : goal.invariant-loop-item
-invariant-loop-item l = (k : ℕ) → k < l.item-index → 0 < clean_at l.self (work_at l.work k).class

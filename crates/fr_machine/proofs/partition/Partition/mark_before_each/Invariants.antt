@@ -1,7 +1,0 @@
-use Rattle.std.proofs.Common.{take}
-use Rattle.fr_machine.specs.Refinement.{IsSpreadOver}
-use Rattle.fr_machine.specs.Predecessors.{lists_of}
-use Rattle.fr_machine.proofs.partition.Partition.mark_before_each.Given as goal
-
-abbrev pub invariant-loop-row : goal.invariant-loop-row
-invariant-loop-row l = IsSpreadOver l.fn.self l.self (lists_of l.before) (take l.row-index l.moved)

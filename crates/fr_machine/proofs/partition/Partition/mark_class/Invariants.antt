@@ -1,6 +1,0 @@
-use Rattle.std.proofs.Common.{◌<◌, length}
-use Rattle.fr_machine.specs.Refinement.{IsWider}
-use Rattle.fr_machine.proofs.partition.Partition.mark_class.Given as goal
-
-abbrev pub invariant-loop : goal.invariant-loop
-invariant-loop l = record { wider : IsWider l.fn.self l.self; row : l.member < length l.fn.self.of.items }

@@ -1,5 +1,0 @@
-use Rattle.fr_machine.specs.Predecessors.{IsFilled}
-use Rattle.fr_machine.proofs.predecessors.Predecessors.new.Given as goal
-
-abbrev pub invariant-loop-s : goal.invariant-loop-s
-invariant-loop-s l = IsFilled l.rows l.before l.s 0
