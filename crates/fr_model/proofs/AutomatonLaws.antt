@@ -1,5 +1,5 @@
 -- How the states of an automaton act, which states their sections are, and when two act alike.
-use Rattle.std.proofs.Common.{ℕ, zero, suc, ◌≡◌, ◌<◌, inl, inr, List, [], ◌∷◌, length, map, drop, get_or, sym, ◌∙◌, ap, arith}
+use Rattle.std.proofs.Common.{ℕ, zero, suc, ◌≡◌, ◌<◌, inl, inr, List, [], ◌∷◌, ◌++◌, length, map, drop, get_or, refl, sym, ◌∙◌, ap, arith}
 use Rattle.std.specs.List.{All, AllByRecursion}
 use Rattle.std.proofs.lemmas.List.{get_or-map, length-map, get_or_past}
 use Rattle.std.proofs.lemmas.Bool.{cases_lt}
@@ -38,6 +38,10 @@ next_state-lt d qs s (suc k) h l = elim (cases_lt k (length (state_at qs s).next
 pub state_after-lt : (d : ℕ) (qs : List State) (s : ℕ) (v : List ℕ) → IsAutomaton d qs → s < length qs → state_after qs s v < length qs
 state_after-lt d qs s [] h l = l
 state_after-lt d qs s (x ∷ v) h l = state_after-lt d qs _ v h (next_state-lt d qs s x h l)
+
+pub state_after-append : (qs : List State) (s : ℕ) (v w : List ℕ) → state_after qs s (v ++ w) ≡ state_after qs (state_after qs s v) w
+state_after-append qs s [] w = refl
+state_after-append qs s (x ∷ v) w = state_after-append qs (next_state qs s x) v w
 
 -- the first letter goes by the permutation, and the next state acts on the rest
 pub act-state_term : (d : ℕ) (qs : List State) (s x : ℕ) (w : List ℕ) → IsAutomaton d qs → s < length qs → IsLetter d x → act (state_term qs s) (x ∷ w) ≡ image (state_at qs s).perm x ∷ act (state_term qs (next_state qs s x)) w

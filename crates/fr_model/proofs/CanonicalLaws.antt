@@ -10,6 +10,7 @@ use Rattle.fr_model.specs.Separation.{IsLexBefore, IsShortlexBefore}
 use Rattle.fr_model.specs.Canonical.{IsLeastWord, IsCanonical}
 use Rattle.fr_model.proofs.TermLaws.{act-append}
 use Rattle.fr_model.proofs.AlikeLaws.{alike_sym, alike_trans, alike_section, section_section, act-nil, alike_from_words}
+use Rattle.fr_model.proofs.OrderedLists.{InOrder, same_ordered}
 use Rattle.fr_model.proofs.AutomatonLaws.{act-state_term, next_state-lt, state_is, IsTerm-state_term}
 
 -- ---- the order
@@ -52,39 +53,6 @@ shortlex_total v w = elim (cases_order (length v) (length w)) [
   | inr o ↦ elim o [ inl h ↦ inr (inl (inl h)) | inr h ↦ inr (inr (inl h)) ]
 ]
 
--- ---- two lists in order with the same members
-abbrev InOrder : List (List ℕ) → Type 0
-InOrder ws = (j k : ℕ) → j < k → k < length ws → IsShortlexBefore (get_or ws j []) (get_or ws k [])
-
-abbrev Among : List (List ℕ) → List ℕ → Type 0
-Among ws v = (k : ℕ) × (k < length ws) × (v ≡ get_or ws k [])
-
-head_or_after : (x : List ℕ) (xs : List (List ℕ)) (v : List ℕ) → InOrder (x ∷ xs) → Among (x ∷ xs) v → (v ≡ x) ⊎ (IsShortlexBefore x v × Among xs v)
-head_or_after x xs v o a = go a.0 a.1 a.2
-  where
-    go : (k : ℕ) → k < length (x ∷ xs) → v ≡ get_or (x ∷ xs) k [] → (v ≡ x) ⊎ (IsShortlexBefore x v × Among xs v)
-    go zero h e = inl e
-    go (suc k) h e = inr (rw e (o 0 (suc k) (omega arith) h), (k, omega arith, e))
-
-same_ordered : (xs ys : List (List ℕ)) → InOrder xs → InOrder ys → ((v : List ℕ) → Among xs v → Among ys v) → ((v : List ℕ) → Among ys v → Among xs v) → xs ≡ ys
-same_ordered [] [] o p f g = refl
-same_ordered [] (y ∷ ys) o p f g = let a = g y (0, omega arith, refl) in absurd (omega (arith, a.1))
-same_ordered (x ∷ xs) [] o p f g = let a = f x (0, omega arith, refl) in absurd (omega (arith, a.1))
-same_ordered (x ∷ xs) (y ∷ ys) o p f g =
-    let heads : x ≡ y = elim (head_or_after y ys x p (f x (0, omega arith, refl))) [
-      | inl e ↦ e
-      | inr a ↦ elim (head_or_after x xs y o (g y (0, omega arith, refl))) [ inl e ↦ sym e | inr b ↦ absurd (shortlex_irrefl x (shortlex_trans x y x b.0 a.0)) ]
-    ] in
-    let f' : (v : List ℕ) → Among xs v → Among ys v = λ v a. elim (head_or_after y ys v p (f v (suc a.0, omega (arith, a.1), a.2))) [
-      | inl e ↦ absurd (shortlex_irrefl x (rw (e ∙ sym heads) at (rw (← a.2) at (o 0 (suc a.0) (omega arith) (omega (arith, a.1))))))
-      | inr b ↦ b.1
-    ] in
-    let g' : (v : List ℕ) → Among ys v → Among xs v = λ v a. elim (head_or_after x xs v o (g v (suc a.0, omega (arith, a.1), a.2))) [
-      | inl e ↦ absurd (shortlex_irrefl y (rw (e ∙ heads) at (rw (← a.2) at (p 0 (suc a.0) (omega arith) (omega (arith, a.1))))))
-      | inr b ↦ b.1
-    ] in
-    rw (heads, same_ordered xs ys (λ j k h l. o (suc j) (suc k) (omega arith) (omega arith)) (λ j k h l. p (suc j) (suc k) (omega arith) (omega arith)) f' g')
-
 -- ---- alike terms have one canonical automaton
 least_of_alike : (d : ℕ) (t u : Term) (v : List ℕ) → IsAlike t u → IsLeastWord d t v → IsLeastWord d u v
 least_of_alike d t u v h l = record {
@@ -98,7 +66,7 @@ least_words_differ d t v w a b same = elim (shortlex_total v w) [
   | inr o ↦ elim o [ inl h ↦ absurd (b.least v a.valid h same) | inr h ↦ absurd (a.least w b.valid h (alike_sym same)) ]
 ]
 
-pub same_place : (ws : List (List ℕ)) → InOrder ws → (j k : ℕ) → j < length ws → k < length ws → get_or ws j [] ≡ get_or ws k [] → j ≡ k
+pub same_place : (ws : List (List ℕ)) → InOrder [] IsShortlexBefore shortlex_irrefl shortlex_trans ws → (j k : ℕ) → j < length ws → k < length ws → get_or ws j [] ≡ get_or ws k [] → j ≡ k
 same_place ws o j k a b e = elim (cases_order j k) [
   | inl s ↦ s
   | inr r ↦ elim r [
@@ -116,7 +84,7 @@ perm_from_images d p q a b h = ext_get_or 0 p q (a.degree ∙ sym b.degree) (λ 
 
 module _ (d : ℕ) (t u : Term) (ps qs : List State) (a : IsCanonical d t ps) (b : IsCanonical d u qs) where
   words_same : IsAlike t u → a.words ≡ b.words
-  words_same h = same_ordered a.words b.words a.ordered b.ordered
+  words_same h = same_ordered [] IsShortlexBefore shortlex_irrefl shortlex_trans a.words b.words a.ordered b.ordered
       (λ v r. b.whole v (least_of_alike d t u v h (rw r.2 (a.least r.0 r.1))))
       (λ v r. a.whole v (least_of_alike d u t v (alike_sym h) (rw r.2 (b.least r.0 r.1))))
 

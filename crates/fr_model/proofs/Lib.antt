@@ -12,3 +12,6 @@ pub mod RankLaws
 pub mod CodeLaws
 pub mod GrowthLaws
 pub mod LimitLaws
+pub mod OrderedLists
+pub mod Pigeons
+pub mod LimitStateLaws

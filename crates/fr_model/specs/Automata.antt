@@ -67,3 +67,13 @@ pub record IsLimitState (d : ℕ) (qs : List State) (r : ℕ) : Type 0 where
   pub some : round ≢ []
   pub back : state_after qs on round ≡ on
   pub reached : IsReached d qs on r
+
+-- a state that some word leads to from a state on a cycle, to which some word leads from s
+pub record IsLimitStateFrom (d : ℕ) (qs : List State) (s r : ℕ) : Type 0 where
+  pub on : ℕ
+  pub way : IsReached d qs s on
+  pub round : List ℕ
+  pub round_valid : IsWord d round
+  pub some : round ≢ []
+  pub back : state_after qs on round ≡ on
+  pub reached : IsReached d qs on r

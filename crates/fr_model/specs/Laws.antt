@@ -1,9 +1,15 @@
--- The laws of the action and of acting alike, which the functions of this crate prove.
+-- The laws of permutations, of the action and of acting alike, which the functions of this crate prove.
 use Rattle.std.specs.Prelude.{ℕ, ◌≡◌, ◌↔◌, List, [], ◌∷◌, ◌++◌, length}
 use Rattle.fr_model.specs.Words.{IsLetter, IsWord}
-use Rattle.fr_model.specs.Permutations.{image, preimage}
+use Rattle.fr_model.specs.Permutations.{IsPermutation, image, preimage, identity_permutation, composite, inverse_permutation}
 use Rattle.fr_model.specs.Systems.{System, wreath_at, section_at}
 use Rattle.fr_model.specs.Terms.{Term, Name, Inverse, Product, Section, act, back, product_term, IsTerm, IsAlike}
+
+-- permutations of d letters are closed under what is done with them, and each of these moves the letters as it should
+pub record PermutationsMoveLetters : Type 0 where
+  pub identity : (d : ℕ) → IsPermutation d (identity_permutation d) × ((x : ℕ) → image (identity_permutation d) x ≡ x)
+  pub composites : (d : ℕ) (p q : List ℕ) → IsPermutation d p → IsPermutation d q → IsPermutation d (composite p q) × ((x : ℕ) → image (composite p q) x ≡ image q (image p x))
+  pub inverses : (d : ℕ) (p : List ℕ) → IsPermutation d p → IsPermutation d (inverse_permutation p) × ((x : ℕ) → (image (inverse_permutation p) x ≡ preimage p x) × (preimage p (image p x) ≡ x))
 
 -- a name moves the first letter by its permutation, and its section there acts on the rest
 pub record ActsByRecursion : Type 0 where

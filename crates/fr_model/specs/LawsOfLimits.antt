@@ -1,6 +1,7 @@
 -- The laws of rays and of nuclei: a ray has one canonical form and one image, and a nucleus and its depth are determined.
-use Rattle.std.specs.Prelude.{ℕ, ◌≡◌, List, Contains}
+use Rattle.std.specs.Prelude.{ℕ, ◌≡◌, ◌<◌, ◌↔◌, List, length, Contains}
 use Rattle.fr_model.specs.Terms.{Term, IsAlike}
+use Rattle.fr_model.specs.Automata.{State, IsAutomaton, IsLimitStateFrom, state_term}
 use Rattle.fr_model.specs.Rays.{IsSameRay, IsCanonicalRay, IsRayImage}
 use Rattle.fr_model.specs.Nuclei.{IsLimitSection, IsGeneratorSection, IsNucleusMember, IsNucleus, IsNucleusDepth}
 
@@ -18,3 +19,7 @@ pub record NucleiAreDetermined : Type 0 where
   pub alike_members : (d : ℕ) (gens : List Term) (h f : Term) → IsAlike h f → IsNucleusMember d (IsGeneratorSection d gens) h → IsNucleusMember d (IsGeneratorSection d gens) f
   pub one_nucleus : (d : ℕ) (gens : List Term) (ns ms : List Term) → IsNucleus d (IsGeneratorSection d gens) ns → IsNucleus d (IsGeneratorSection d gens) ms → (n : Term) → Contains ns n → (m : Term) × Contains ms m × IsAlike n m
   pub one_depth : (d : ℕ) (gens : List Term) (k l : ℕ) → IsNucleusDepth d (IsGeneratorSection d gens) k → IsNucleusDepth d (IsGeneratorSection d gens) l → k ≡ l
+
+-- the limit sections of a state are the states that it reaches through a cycle, up to acting alike
+pub record LimitsAreStates : Type 0 where
+  pub limits : (d : ℕ) (qs : List State) (s : ℕ) (h : Term) → IsAutomaton d qs → s < length qs → IsLimitSection d (state_term qs s) h ↔ ((r : ℕ) × IsLimitStateFrom d qs s r × IsAlike (state_term qs r) h)

@@ -2,13 +2,18 @@
 // Its functions compute nothing. The contract of each is a law that holds of the definitions.
 #![tactic(auto)]
 
-ghost use Rattle.fr_model.specs.Laws.{ActsByRecursion, ActsOnTree, AlikeIsCongruence, SectionsByRules, AlikeIsDecidedByWords};
+ghost use Rattle.fr_model.specs.Laws.{PermutationsMoveLetters, ActsByRecursion, ActsOnTree, AlikeIsCongruence, SectionsByRules, AlikeIsDecidedByWords};
 ghost use Rattle.fr_model.specs.LawsOfSizes.{SizesAreDetermined, PairCountsAreDetermined};
 ghost use Rattle.fr_model.specs.LawsOfCodes.{CodesDecideAlike, SeparationsAreDetermined};
 ghost use Rattle.fr_model.specs.LawsOfRanks.{RanksArePlaces};
 ghost use Rattle.fr_model.specs.LawsOfConstructions.{SectionWordsActAsSections, ConstructionsActAsTerms};
 ghost use Rattle.fr_model.specs.LawsOfGrowth.{GrowthIsOneClass, AlikeGrowAlike};
-ghost use Rattle.fr_model.specs.LawsOfLimits.{RaysAreDetermined, NucleiAreDetermined};
+ghost use Rattle.fr_model.specs.LawsOfLimits.{RaysAreDetermined, NucleiAreDetermined, LimitsAreStates};
+
+/// The identity, composites and inverses of permutations are permutations, and move the letters as such.
+pub fn permutations_move_letters()
+    ensures { PermutationsMoveLetters }
+{}
 
 /// A name acts by its wreath recursion.
 pub fn acts_by_recursion()
@@ -88,4 +93,9 @@ pub fn rays_are_determined()
 /// A nucleus is unique up to acting alike, and its depth is one number.
 pub fn nuclei_are_determined()
     ensures { NucleiAreDetermined }
+{}
+
+/// The limit sections of a state are the states that it reaches through a cycle, up to acting alike.
+pub fn limits_are_states()
+    ensures { LimitsAreStates }
 {}

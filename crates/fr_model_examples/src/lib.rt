@@ -1,6 +1,6 @@
-// Computed values and small instances of the definitions of `fr_model`, each relation with a wrong value refuted.
+// Computed values and small instances of the definitions of `fr_model`; of most relations a wrong value is refuted too.
 // Its functions compute nothing. The contract of each names the instances, which show that a definition means what it
-// says: it holds of what it should, and not of what lies beside it.
+// says: it holds of what it should and, where a value is refuted, not of what lies beside it.
 #![tactic(auto)]
 
 ghost use Rattle.fr_model_examples.specs.ComputedPermutations.{PermutationsCompose, PermutationsRefused, RanksOfPermutations, SwapHasRankOne};

@@ -28,11 +28,11 @@ use Rattle.fr_nucleus.specs.Orders.{machine_at}
 use Rattle.fr_nucleus.specs.Rows.{HasRow, AreSections, IsListing}
 use Rattle.fr_nucleus.specs.Depths.{mark_at, IsWayOut}
 use Rattle.fr_nucleus.specs.Numberings.{HasMoreOf, IsClosure}
-use Rattle.fr_nucleus.proofs.Pigeons.{shared}
+use Rattle.fr_model.proofs.Pigeons.{shared}
 use Rattle.fr_nucleus.proofs.ListLaws.{choice}
 use Rattle.fr_nucleus.proofs.ProductLaws.{IsMachine-products, alike_product_row, alike_pair}
 use Rattle.fr_nucleus.proofs.GrowthLaws.{few_pairs}
-use Rattle.fr_nucleus.proofs.DepthLaws.{limit_state}
+use Rattle.fr_model.proofs.LimitStateLaws.{IsLimitState-from}
 use Rattle.fr_nucleus.proofs.SectionLaws.{HasRow-alike, HasMoreThan-wider}
 use Rattle.fr_nucleus.proofs.GeneratorLaws.{element_at}
 use Rattle.fr_nucleus.proofs.NucleusTables.{IsHeld, IsInside, HasLimitsIn, IsNucleusTable, IsDepthTable, IsClosedSet}
@@ -131,8 +131,8 @@ module _ (gens : List MachineView) (qs : List Row) (a : AreSections gens qs) whe
           start = start;
           machine = record { automaton = IsAutomaton-states_of (alphabet_of gens) products machine; below = sl; alike = alike_trans e (alike_sym p.1) };
           held = λ r f.
-              let g = limit_state (alphabet_of gens) products machine start r sl f in
-              let rl : r < length products = omega (arith, length-states_of products, subst (λ z. z < length (states_of products)) f.reached (state_after-lt (alphabet_of gens) (states_of products) f.on f.rest (IsAutomaton-states_of (alphabet_of gens) products machine) (subst (λ z. z < length (states_of products)) f.there (state_after-lt (alphabet_of gens) (states_of products) start f.way (IsAutomaton-states_of (alphabet_of gens) products machine) sl)))) in
+              let g = IsLimitState-from (alphabet_of gens) (states_of products) start r (IsAutomaton-states_of (alphabet_of gens) products machine) sl f in
+              let rl : r < length products = omega (arith, length-states_of products, subst (λ z. z < length (states_of products)) f.reached.there (state_after-lt (alphabet_of gens) (states_of products) f.on f.reached.along (IsAutomaton-states_of (alphabet_of gens) products machine) (subst (λ z. z < length (states_of products)) f.way.there (state_after-lt (alphabet_of gens) (states_of products) start f.way.along (IsAutomaton-states_of (alphabet_of gens) products machine) sl)))) in
               held (row_term products r) (c.limits r g rl);
         }
 

@@ -1,5 +1,5 @@
 -- Rows from which words of a length lead to marked ones.
-use Rattle.std.proofs.Common.{ℕ, zero, suc, ◌≡◌, ◌+◌, ◌<◌, ◌≤◌, inl, inr, Bool, true, false, List, [], ◌∷◌, length, get_or, refl, sym, ◌∙◌, ap, subst, arith}
+use Rattle.std.proofs.Common.{ℕ, zero, suc, ◌≡◌, ◌+◌, ◌<◌, ◌≤◌, inl, inr, Bool, true, false, List, [], ◌∷◌, length, get_or, refl, sym, ◌∙◌, subst, arith}
 use mathlib.Core.Bool.{beq}
 use Rattle.std.proofs.lemmas.Bool.{cases_lt}
 use Rattle.fr_model.specs.Words.{IsWord}
@@ -9,8 +9,7 @@ use Rattle.fr_machine.specs.declared.row.Row.{Row}
 use Rattle.fr_machine.specs.Rows.{states_of, IsMachine, row_at}
 use Rattle.fr_machine.proofs.RowLaws.{IsAutomaton-states_of, length-states_of, row_valid, next_is}
 use Rattle.fr_nucleus.specs.Depths.{mark_at, LeadsIn, IsWayOut, AreBack, IsBackOf}
-use Rattle.fr_nucleus.proofs.NucleusTables.{IsLimitStateFrom}
-use Rattle.fr_nucleus.proofs.LimitLaws.{long_state}
+use Rattle.fr_model.proofs.LimitStateLaws.{IsLimitState-from, long_state}
 
 -- no letters lead on
 pub AreBack-start : (d : ℕ) (qs : List State) (marks : List Bool) → length marks ≡ length qs → AreBack d qs marks 0 marks
@@ -59,18 +58,6 @@ module _ (d : ℕ) (rows : List Row) (m : IsMachine d rows) where
           let below : next_state qs s (suc x) < length qs = state_after-lt d qs s (suc x ∷ []) auto l in
           h.none (next_state qs s (suc x)) below (rw there free) (v, w.1, omega (arith, n), f)
 
-  -- a row from a cycle, in the words of the model
-  pub limit_state : (s r : ℕ) → s < length qs → IsLimitStateFrom d qs s r → IsLimitState d qs r
-  limit_state s r l h = record {
-    on = h.on;
-    state = rw (sym h.there) (state_after-lt d qs s h.way auto l);
-    round = h.round;
-    round_valid = h.round_valid;
-    some = λ e. omega (arith, h.some, ap length e);
-    back = h.back;
-    reached = record { along = h.rest; valid = h.rest_valid; there = h.reached };
-  }
-
   -- words that are as long as the rows are many lead to no mark, where no limit row is marked
   pub short : (marks : List Bool) (k s : ℕ) → ((r : ℕ) → r < length rows → IsLimitState d qs r → mark_at marks r ≡ false) → s < length qs → LeadsIn d qs marks k s → k < length rows
   short marks k s h l w = elim (cases_lt k (length rows)) [
@@ -78,7 +65,7 @@ module _ (d : ℕ) (rows : List Row) (m : IsMachine d rows) where
     | inr t ↦
         let r = state_after qs s w.0 in
         let f = long_state d qs s w.0 auto l w.1 (omega (arith, w.2, length-states_of rows)) in
-        let e = h r (omega (arith, length-states_of rows, state_after-lt d qs s w.0 auto l)) (limit_state s r l f) in
+        let e = h r (omega (arith, length-states_of rows, state_after-lt d qs s w.0 auto l)) (IsLimitState-from d qs s r auto l f) in
         let g : false ≡ true = sym e ∙ w.3 in
         cc
   ]

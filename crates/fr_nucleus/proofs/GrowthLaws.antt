@@ -20,7 +20,7 @@ use Rattle.fr_nucleus.specs.Numberings.{AreOutside, IsNumberingOf, IsOverfull, A
 use Rattle.fr_nucleus.proofs.NextLaws.{alike_rows, alike_perms, alike_nexts, leads-lt}
 use Rattle.fr_nucleus.proofs.ProductLaws.{IsMachine-products, alike_product_row, alike_pair}
 use Rattle.fr_nucleus.proofs.NumberingLaws.{IsMachine-grown}
-use Rattle.fr_nucleus.proofs.LimitLaws.{state_after-append}
+use Rattle.fr_model.proofs.AutomatonLaws.{state_after-append}
 use Rattle.fr_nucleus.proofs.NucleusLaws.{one_section, member_alike, product_member}
 
 times_one : (t : Term) → IsAlike (Product t One) t
@@ -79,21 +79,13 @@ module _ (d : ℕ) (qs ms products : List Row) (q : IsMachine d qs) (m : IsMachi
       (record { automaton = IsAutomaton-states_of d products products_machine; below = h.state; alike = alike_refl (row_term products on) })
       (record {
         on = on;
-        way = [];
-        way_valid = tt;
-        there = refl;
+        way = record { along = []; valid = tt; there = refl };
         round = h.round;
         round_valid = h.round_valid;
-        some = longer h.round h.some;
+        some = h.some;
         back = h.back;
-        rest = h.reached.along;
-        rest_valid = h.reached.valid;
-        reached = h.reached.there;
+        reached = h.reached;
       })
-    where
-      longer : (v : List ℕ) → (v ≡ [] → ⊥) → 1 ≤ length v
-      longer [] n = absurd (n refl)
-      longer (x ∷ v) n = omega arith
 
   -- too many rows are too many members
   pub HasMoreOf-from : (most : ℕ) → IsOverfull d products (length ms) (length qs) most → HasMoreOf d qs most

@@ -1,6 +1,4 @@
-pub mod Pigeons
 pub mod NucleusTables
-pub mod LimitLaws
 pub mod NucleusLaws
 pub mod NextLaws
 pub mod JoiningLaws

@@ -5,14 +5,14 @@ use Rattle.std.proofs.lemmas.Bool.{cases_lt}
 use Rattle.std.proofs.lemmas.List.{drop_at, get_or_past, get_or_default}
 use Rattle.fr_model.specs.Words.{IsWord}
 use Rattle.fr_model.specs.Terms.{Term, One, Inverse, Product, Section, act, IsTerm, IsAlike}
-use Rattle.fr_model.specs.Automata.{State, state_term}
+use Rattle.fr_model.specs.Automata.{State, state_term, IsLimitStateFrom}
 use Rattle.fr_model.specs.Classes.{HasMoreThan}
 use Rattle.fr_model.specs.Nuclei.{IsLimitSection, IsNucleusMember, IsGroupElement, IsAbsorbing, IsNucleus, IsNucleusDepth, IsGeneratorSection, one, section, inverse, of_generator, of_product, none, more}
 use Rattle.fr_model.proofs.TermLaws.{act-IsWord, IsWord-append}
 use Rattle.fr_model.proofs.AlikeLaws.{alike_refl, alike_sym, alike_trans, alike_product, alike_section, section_section, section_product}
-use Rattle.fr_nucleus.proofs.NucleusTables.{IsHeld, IsHeldFrom, IsClosedSet, IsListed, IsInside, IsMachineOf, IsLimitStateFrom, HasLimitsIn, IsNucleusTable, IsDepthTable}
-use Rattle.fr_nucleus.proofs.Pigeons.{IsShared, shared}
-use Rattle.fr_nucleus.proofs.LimitLaws.{split, limit_is_section, long_is_limit}
+use Rattle.fr_nucleus.proofs.NucleusTables.{IsHeld, IsHeldFrom, IsClosedSet, IsListed, IsInside, HasLimitsIn, IsNucleusTable, IsDepthTable}
+use Rattle.fr_model.proofs.Pigeons.{IsShared, shared}
+use Rattle.fr_model.proofs.LimitStateLaws.{IsMachineOf, split, limit_is_section, long_is_limit}
 
 -- ---- one bound for the members of a list
 here : (t : Term) (ts : List Term) → Contains (t ∷ ts) t

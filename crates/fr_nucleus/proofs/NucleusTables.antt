@@ -1,10 +1,11 @@
 -- Tables from which a nucleus and its depth are read: the premises of the laws of nuclei.
-use Rattle.std.proofs.Common.{ℕ, suc, ◌≡◌, ◌<◌, ◌≤◌, List, length}
+use Rattle.std.proofs.Common.{ℕ, suc, ◌≡◌, ◌≤◌, List, length}
 use Rattle.std.specs.List.{Contains}
 use Rattle.fr_model.specs.Words.{IsWord}
 use Rattle.fr_model.specs.Terms.{Term, One, Product, Section, IsTerm, IsAlike}
-use Rattle.fr_model.specs.Automata.{State, state_after, state_term, IsAutomaton}
+use Rattle.fr_model.specs.Automata.{State, state_term, IsLimitStateFrom}
 use Rattle.fr_model.specs.Nuclei.{IsNucleusMember}
+use Rattle.fr_model.proofs.LimitStateLaws.{IsMachineOf}
 
 -- t acts alike a member of the list
 abbrev pub IsHeld : List Term → Term → Type 0
@@ -27,26 +28,6 @@ IsListed Q qs = (q : Term) → Q q → IsHeld qs q
 -- each member of the list is alike a member of Q
 abbrev pub IsInside : (Term → Type 0) → List Term → Type 0
 IsInside Q qs = (r : Term) → Contains qs r → (q : Term) × Q q × IsAlike r q
-
--- r is reached from a cycle that is reached from s
-pub record IsLimitStateFrom (d : ℕ) (qs : List State) (s r : ℕ) : Type 0 where
-  pub on : ℕ
-  pub way : List ℕ
-  pub way_valid : IsWord d way
-  pub there : state_after qs s way ≡ on
-  pub round : List ℕ
-  pub round_valid : IsWord d round
-  pub some : 1 ≤ length round
-  pub back : state_after qs on round ≡ on
-  pub rest : List ℕ
-  pub rest_valid : IsWord d rest
-  pub reached : state_after qs on rest ≡ r
-
--- t acts alike a state of an automaton
-pub record IsMachineOf (d : ℕ) (t : Term) (qs : List State) (s : ℕ) : Type 0 where
-  pub automaton : IsAutomaton d qs
-  pub below : s < length qs
-  pub alike : IsAlike t (state_term qs s)
 
 -- a machine of t, each of whose limit states acts alike a member of the list
 pub record HasLimitsIn (d : ℕ) (ns : List Term) (t : Term) : Type 0 where

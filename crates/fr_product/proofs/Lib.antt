@@ -1,5 +1,6 @@
 pub mod PairLaws
 pub mod LimitLaws
+pub mod SectionMarkLaws
 pub mod PeelLaws
 pub mod AloneLaws
 pub mod SpreadLaws

@@ -13,7 +13,7 @@ use Rattle.fr_model.specs.Words.{IsLetter, IsWord}
 use Rattle.fr_model.specs.Automata.{State, state_at, next_state, state_after, IsAutomaton, IsReached, IsLimitState}
 use Rattle.fr_model.proofs.PermutationLaws.{present_place, present_at}
 use Rattle.fr_model.proofs.TermLaws.{IsWord-append}
-use Rattle.fr_model.proofs.AutomatonLaws.{state_is, next_state-lt}
+use Rattle.fr_model.proofs.AutomatonLaws.{state_is, next_state-lt, state_after-append}
 use Rattle.fr_product.specs.Limits.{times, arrivals_from, arriving, IsIn, AreApart}
 
 -- ---- counts
@@ -93,10 +93,6 @@ apart-le xs n apart below =
     omega (arith, below r.0 r.1, get_or_default xs r.0 0 q r.1, r.3))
 
 -- ---- limit states
-pub state_after-append : (qs : List State) (s : ℕ) (v w : List ℕ) → state_after qs s (v ++ w) ≡ state_after qs (state_after qs s v) w
-state_after-append qs s [] w = refl
-state_after-append qs s (x ∷ v) w = state_after-append qs (next_state qs s x) v w
-
 module _ (d : ℕ) (qs : List State) (g : IsAutomaton d qs) where
   -- the next state at a letter stands among the next states
   pub next-in : (s x : ℕ) → s < length qs → IsLetter d x → IsIn (state_at qs s).next (next_state qs s x)

@@ -1,14 +1,20 @@
 -- The rows of a machine that are reached from a cycle. Rows that no row is before are peeled off until none is left; this is
 -- the algorithm of Kahn (Topological sorting of large networks), whose remainder is wanted here.
 use Rattle.std.specs.Prelude.{ℕ, ◌≡◌, ◌≢◌, ◌<◌, ◌+◌, ◌↔◌, ◌==◌, Bool, true, false, IsTrue, if◌then◌else◌, List, [], ◌∷◌, length, sum_by, slice_index, slice_index_or}
+use Rattle.fr_model.specs.Terms.{Term, IsAlike}
 use Rattle.fr_model.specs.Automata.{State, IsLimitState}
+use Rattle.fr_model.specs.Nuclei.{IsLimitSection}
 use Rattle.fr_machine.specs.declared.row.Row.{Row}
-use Rattle.fr_machine.specs.Rows.{state_of, states_of}
+use Rattle.fr_machine.specs.Rows.{state_of, states_of, row_term}
 
 -- a mark for each row, which says whether the row is reached from one on a cycle
 pub record AreLimitRows (d : ℕ) (rows : List Row) (marks : List Bool) : Type 0 where
   pub count : length marks ≡ length rows
   pub limits : (r : ℕ) → r < length rows → IsTrue (slice_index_or marks r false) ↔ IsLimitState d (states_of rows) r
+
+-- the marked rows are the limit sections of row 0, up to acting alike
+abbrev pub AreLimitSections : ℕ → List Row → List Bool → Type 0
+AreLimitSections d rows marks = (h : Term) → IsLimitSection d (row_term rows 0) h ↔ ((r : ℕ) × (r < length rows) × IsTrue (slice_index_or marks r false) × IsAlike (row_term rows r) h)
 
 -- how often a number stands in a list
 abbrev pub times : ℕ → List ℕ → ℕ

@@ -2,19 +2,22 @@
 
 ghost use Rattle.std.specs.Prelude.{◌≡◌, ◌<◌, ◌≤◌, ◌+◌, ◌-◌, ◌*◌, ◌^◌, ◌⊎◌, ◌++◌, ℕ, [], ◌∷◌, IfOk, OnOk, length, replicate, true, false, slice_index, slice_index_or, slice_set};
 ghost use Rattle.fr_model.specs.Automata.{IsAutomaton, state_at};
+ghost use Rattle.fr_machine.specs.Minimal.{AreReached};
 ghost use Rattle.fr_machine.specs.Rows.{IsRow, IsMachine, state_of, states_of};
-ghost use Rattle.fr_product.specs.Limits.{AreLimitRows, AreUnreached, IsPeeling, arrivals_from, times};
+ghost use Rattle.fr_product.specs.Limits.{AreLimitRows, AreLimitSections, AreUnreached, IsPeeling, arrivals_from, times};
 
 use fr_alphabet::NoMemory;
 use fr_machine::{Machine, Row};
 use std::alloc::Global;
 
 /// For each row of `m` whether it is reached, along any word, from a row on a cycle. The nucleus of a group is made of such
-/// rows (Nekrashevych, Self-Similar Groups, chapter 2).
+/// rows (Nekrashevych, Self-Similar Groups, chapter 2). Where all rows are reached from row 0, the marked ones are its limit
+/// sections, up to acting alike.
 ///
 /// The only error is that memory runs out. It takes time linear in the number of rows times letters.
 pub fn limit_rows(alloc: Global, m: &Machine) -> Result<Vec<bool>, NoMemory>
-    ensures { IfOk result (λ marks. AreLimitRows m.now.alphabet m.now.rows marks.items) }
+    ensures limits { IfOk result (λ marks. AreLimitRows m.now.alphabet m.now.rows marks.items) }
+    ensures sections { IfOk result (λ marks. AreReached m.now.alphabet m.now.rows → AreLimitSections m.now.alphabet m.now.rows marks.items) }
 {
     let rows = m.rows();
     let arrivals = arrivals(alloc, rows)?;

@@ -4,6 +4,7 @@ use Rattle.std.proofs.lemmas.Bool.{cases_lt}
 use Rattle.fr_machine.specs.declared.row.Row.{Row}
 use Rattle.fr_product.specs.Limits.{AreUnreached, arrivals_from}
 use Rattle.fr_product.proofs.PeelLaws.{IsPeeling-start, left_count, left_count-set, AreLimitRows-peeled}
+use Rattle.fr_product.proofs.SectionMarkLaws.{AreLimitSections-marked}
 use Rattle.fr_product.proofs.limits.limit_rows.Goals as goal
 
 pub loop-s-init : goal.loop-s-init
@@ -34,4 +35,8 @@ returns c =
       | inl l ↦ absurd (let e = c.in_default.ensures.variant.1 (omega (arith, todo.ok.0)) in cc)
       | inr g ↦ omega arith
     ] in
-    AreLimitRows-peeled c.args.m.now.alphabet c.args.m.now.rows c.loop-s.peeling.remains.items c.loop-s.peeling.arrivals.items todo.items c.rows-rows.ensures.valid (nil_from_length todo.items empty) c.loop-s.invariant
+    let marked = AreLimitRows-peeled c.args.m.now.alphabet c.args.m.now.rows c.loop-s.peeling.remains.items c.loop-s.peeling.arrivals.items todo.items c.rows-rows.ensures.valid (nil_from_length todo.items empty) c.loop-s.invariant in
+    record {
+      limits = marked;
+      sections = AreLimitSections-marked c.args.m.now.alphabet c.args.m.now.rows c.loop-s.peeling.remains.items c.rows-rows.ensures.valid marked;
+    }

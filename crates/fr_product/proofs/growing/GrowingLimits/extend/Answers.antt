@@ -20,4 +20,4 @@ spread-requires c =
     let e : c.len-first.result ≡ length q.0 = omega (arith, c.len-first.ensures, c.args.self.now.marks.ok.0, q.1.limits.count) in
     let some : c.len-first.result ≢ 0 = c.if-first-eq0.false in
     IsSpreading-extended m.alphabet c.in_ok-alone.field-0.alphabet c.len-first.result q.0 m.rows c.in_ok-alone.field-0.rows c.rows-rows.ensures.valid q.1.valid q.2 e (omega arith) c.in_ok-alone.ensures.alphabet c.in_ok-alone.ensures.rows
-    c.args.self.now.marks.items c.in_ok-new_marks.new_marks.items c.deref.result.now c.extend_from_slice.new.self.items q.1.limits c.in_ok-new_marks.ensures c.deref.ensures.value c.in_ok-extend_from_slice.ensures.items
+    c.args.self.now.marks.items c.in_ok-new_marks.new_marks.items c.deref.result.now c.extend_from_slice.new.self.items q.1.limits c.in_ok-new_marks.ensures.limits c.deref.ensures.value c.in_ok-extend_from_slice.ensures.items
