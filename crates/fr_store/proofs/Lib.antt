@@ -9,3 +9,5 @@ pub mod EnterLaws
 pub mod PairLaws
 pub mod ProductLaws
 pub mod InverseLaws
+pub mod RememberedLaws
+pub mod ListedLaws

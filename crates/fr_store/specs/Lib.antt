@@ -1,4 +1,5 @@
 pub mod Store
+pub mod Nuclei
 pub mod Through
 pub mod Blocks
 pub mod Coded
@@ -7,4 +8,6 @@ pub mod Props
 pub mod Entered
 pub mod Products
 pub mod Inverses
+pub mod Remembered
+pub mod Listed
 pub mod VecView
