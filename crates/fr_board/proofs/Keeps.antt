@@ -12,7 +12,7 @@ use Rattle.fr_line.proofs.Weaving.{below_more, woven_step, woven_join, woven_spl
 use Rattle.fr_board.specs.declared.notes.Drawn.{Drawn}
 use Rattle.fr_board.specs.Dealing.{times, newcomer, Knows, Dealt, looked, took, IsSettled, looks, takes_piece, parted, sprouted, united, spent}
 
-times_append : (p : ℕ) (xs ys : List ℕ) → times p (xs ++ ys) ≡ times p xs + times p ys
+pub times_append : (p : ℕ) (xs ys : List ℕ) → times p (xs ++ ys) ≡ times p xs + times p ys
 times_append p [] ys = omega arith
 times_append p (x ∷ xs) ys = let h = times_append p xs ys in omega arith
 
