@@ -7,12 +7,12 @@ use Rattle.atomic_table.specs.Table.{State, step, Act, keeps, Valid, carried_aft
 use Rattle.atomic_table.proofs.Lists.{at_set, at_snoc, set_else, exchanged}
 use Rattle.fr_line.specs.declared.Branch.{Branch}
 use Rattle.fr_line.specs.Lines.{below, Whole, IsLive, cut, sprout}
-use Rattle.fr_line.proofs.Totals.{total_set, total_snoc, total_one}
+use Rattle.fr_line.proofs.Totals.{total_set, total_snoc, total_at, total_one}
 use Rattle.fr_line.proofs.Weaving.{below_more, woven_step, woven_join, woven_split, woven_first, whole_alone, not_live, head_of, uncut, live_append}
 use Rattle.fr_board.specs.declared.notes.Drawn.{Drawn}
 use Rattle.fr_board.specs.Dealing.{times, newcomer, Knows, Dealt, looked, took, IsSettled, looks, takes_piece, parted, sprouted, united, spent}
 
-times_append : (p : ℕ) (xs ys : List ℕ) → times p (xs ++ ys) ≡ times p xs + times p ys
+pub times_append : (p : ℕ) (xs ys : List ℕ) → times p (xs ++ ys) ≡ times p xs + times p ys
 times_append p [] ys = omega arith
 times_append p (x ∷ xs) ys = let h = times_append p xs ys in omega arith
 
@@ -21,11 +21,16 @@ module _ (limit : ℕ) where
   drawn : (s : State ℕ Drawn) → Dealt limit s → (i : ℕ) (v : Drawn) → get_elem? s.views i ≡ some v → Whole v.line → (p : ℕ) → times p v.pieces ≡ below p (slice_index s.words 0)
   drawn s r i v at all p = sym (total_one (λ (u : Drawn). times p u.pieces) s.views i v at (λ j u other at'. ap (times p) ((r.each j u at').spent (whole_alone (λ (u : Drawn). u.line) s.views i j v u other at at' r.woven all)))) ∙ r.once p
 
+  -- each piece of a draw was drawn, and is its own alone
+  apart : (s : State ℕ Drawn) → Dealt limit s → (i : ℕ) (v : Drawn) → get_elem? s.views i ≡ some v → (p : ℕ) → times p v.pieces ≤ below p (slice_index s.words 0)
+  apart s r i v at p = let t = total_at (λ (u : Drawn). times p u.pieces) s.views i v at in let o = r.once p in omega arith
+
   -- after a step that left the word
   settles : (s : State ℕ Drawn) → Dealt limit s → (i : ℕ) (v : Drawn) → get_elem? s.views i ≡ some v → IsLive v.line → IsSettled (looked v (slice_index s.words 0))
   settles s r i v at live = record {
     met = refl;
     most = let l = (r.each i v at).limited live in let m = r.most in omega arith;
+    once = apart s r i v at;
     whole = drawn s r i v at;
   }
 
@@ -34,6 +39,12 @@ module _ (limit : ℕ) where
   settles_more s r i v at live room = record {
     met = refl;
     most = let l = (r.each i v at).limited live in omega arith;
+    once = λ p.
+        let n : ℕ = slice_index s.words 0 in
+        let d = apart s r i v at p in
+        let a = times_append p v.pieces (n ∷ []) in
+        let m = below_more p n in
+        omega arith;
     whole = λ all p.
         let n : ℕ = slice_index s.words 0 in
         let d = drawn s r i v at all p in

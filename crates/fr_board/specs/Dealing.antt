@@ -43,10 +43,11 @@ looked v n = record { line = v.line; pieces = v.pieces; seen = n; steps = suc v.
 abbrev pub took : Drawn → ℕ → Drawn
 took v n = record { line = v.line; pieces = v.pieces ++ n ∷ []; seen = suc n; steps = suc v.steps; last = suc n; limit = v.limit }
 
--- right after a step: a whole draw has drawn the pieces below the word, each once, and no others
+-- right after a step: each piece was drawn at most once, and is below the word; a whole draw has drawn all of these
 pub record IsSettled (v : Drawn) : Type 0 where
   pub met : v.seen ≡ v.last
   pub most : v.last ≤ v.limit
+  pub once : (p : ℕ) → times p v.pieces ≤ below p v.last
   pub whole : Whole v.line → (p : ℕ) → times p v.pieces ≡ below p v.last
 
 -- a draw with its seat, as the table has it

@@ -8,7 +8,7 @@ use crate::Failed;
 
 /// A place to write bytes to, with a count of the faults so far.
 ///
-/// This project's own, after `std::io::Write`. The ghost members say what contracts may know of a
+/// It is made after `std::io::Write`. The ghost members say what contracts may know of a
 /// sink; a type that does not know its bytes tells `None`.
 pub trait Sink {
     /// The bytes that were written, where they are told.

@@ -60,7 +60,7 @@ impl From<AllocError> for ReadStop {
 
 /// Bytes to read, with a count of the faults so far.
 ///
-/// This project's own, after `std::io::Read`. The ghost members say what contracts may know of a
+/// It is made after `std::io::Read`. The ghost members say what contracts may know of a
 /// source; a type that does not know its bytes tells `None`.
 pub trait Source {
     /// The bytes that are left, where they are told.

@@ -5,8 +5,8 @@
 //! its rows the element that it acts as. A cell or a link holds a pack, which names a row of a
 //! block. The cells of a row are looked through from its home on, which its code gives.
 //!
-//! The layout is this project's own. The functions compute places and packs; those of [`laws`]
-//! compute nothing, and the contract of each is a law that holds of the definitions.
+//! The functions compute places and packs; those of [`laws`] compute nothing, and the contract of
+//! each is a law that holds of the definitions.
 #![tactic(auto)]
 
 pub mod laws;

@@ -12,7 +12,7 @@
 //! all others were joined into it.
 //!
 //! The lines stand in proofs alone. The functions compute nothing: the contract of each is a law
-//! that holds of the definitions. The notion is this project's own.
+//! that holds of the definitions.
 #![tactic(auto)]
 
 ghost use Rattle.fr_line.specs.Laws.{FirstSeatIsWhole, SplitsKeepTheTree, JoinsKeepTheTree, WholeSeatIsAlone, LinesMakeATree, CrewsKeepTheTree};

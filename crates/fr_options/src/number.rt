@@ -8,7 +8,7 @@ ghost use Rattle.fr_options.specs.Numbers as spec;
 const MOST_DIGITS: usize = 10;
 
 /// The number that one to ten digits write, where it is one from the least to the greatest. Leading zeros are digits, and a
-/// sign is none. This project's own.
+/// sign is none.
 pub fn read_number(text: &str, least: u32, most: u32) -> Option<u32>
     ensures number { result ≡ spec.number_between least most text.now }
     ensures range { IfSome result (λ n. (least ≤ n) × (n ≤ most)) }

@@ -13,7 +13,7 @@ mod parting;
 mod rows;
 
 /// The right to step on one table, and in proofs what was met and done by it. Each thread has its
-/// own. This project's own.
+/// own.
 #[derive(Drop)]
 pub struct Hand {
     pub(crate) seat: Seat<u8, Note>,

@@ -24,7 +24,7 @@ pub fn cells_are_unique()
     ensures { CellsAreUnique }
 {}
 
-/// A row shows one machine for good.
+/// A block that was read shows one machine for good.
 pub fn rows_show_one_machine()
     ensures { RowsShowOneMachine }
 {}

@@ -9,7 +9,7 @@ use std::alloc::Global;
 
 mod making;
 
-/// The words of a shared table, under their rule. Threads share it by reference. This project's own.
+/// The words of a shared table, under their rule. Threads share it by reference.
 #[derive(Drop)]
 pub struct Words {
     pub(crate) table: Table<u8, Note, Plan, Ruled, Global>,
