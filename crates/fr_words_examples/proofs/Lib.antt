@@ -1,3 +1,4 @@
 pub mod Fillings
+pub mod Settling
 pub mod Squares
 mod AddingRows

@@ -1,5 +1,5 @@
--- The square of the identity, where the identity is a machine of one row.
-use Rattle.std.proofs.Common.{◌≡◌, ℕ, List, [], ◌∷◌, refl, sym, ap, ◌∙◌, subst, arith}
+-- The square of the identity, where the identity is a machine of one row, and products of published rows.
+use Rattle.std.proofs.Common.{◌≡◌, ℕ, ◌+◌, List, [], ◌∷◌, refl, sym, ap, ◌∙◌, subst, arith}
 use Rattle.std.proofs.lemmas.List.Elements.{All-from_recursion}
 use Rattle.fr_model.specs.Words.{IsWord}
 use Rattle.fr_model.specs.Permutations.{image, identity_permutation}
@@ -13,11 +13,12 @@ use Rattle.fr_machine.specs.declared.row.Row.{Row}
 use Rattle.fr_machine.specs.Rows.{IsMachine, states_of, row_term}
 use Rattle.fr_machine.proofs.RowLaws.{IsAutomaton-states_of}
 use Rattle.fr_layout.specs.declared.plan.Plan.{Plan}
+use Rattle.fr_layout.specs.Packs.{product_word}
 use Rattle.fr_layout.specs.Meaning.{row_meaning}
 use Rattle.fr_words.proofs.Knowing.{admitted_agrees}
-use Rattle.fr_words.specs.Asks.{Agrees, MayCache}
+use Rattle.fr_words.specs.Asks.{Admits, MayCache}
 use Rattle.fr_words.specs.declared.notes.Note.{Note}
-use Rattle.fr_words_examples.specs.Filling.{first_block, KnowsRows}
+use Rattle.fr_words_examples.specs.Filling.{block_at, IsPublished}
 use Rattle.fr_words_examples.proofs.Fillings.{means}
 
 module _ (d : ℕ) (row : Row) (m : IsMachine d (row ∷ [])) (id : row.perm ≡ identity_permutation d) where
@@ -71,22 +72,28 @@ module _ (d : ℕ) (row : Row) (m : IsMachine d (row ∷ [])) (id : row.perm ≡
       two : (v : List ℕ) → IsWord d v → IsAlike (Section (row_term (row ∷ []) 0) (act (row_term (row ∷ []) 0) v)) (Section (row_term (row ∷ []) 0) (act (row_term (row ∷ []) 0) []))
       two v l = subst (λ (x : List ℕ × List ℕ). IsAlike (Section (row_term (row ∷ []) 0) x.0) (Section (row_term (row ∷ []) 0) x.1)) (λ i. (sym (act_is v l) i, sym (act_is [] tt) i)) (one v l)
 
--- so its square may be put into the cache
-pub may_cache : (p : Plan) (v : Note) (row : Row) (word : ℕ) → IsMachine p.letters (row ∷ []) → row.perm ≡ identity_permutation p.letters → KnowsRows p v (row ∷ []) → word ≡ 1 → MayCache p v word
-may_cache p v row word m id known is = record {
-  first = 0;
-  second = 0;
-  third = 0;
-  first_block = first_block (row ∷ []);
-  second_block = first_block (row ∷ []);
-  third_block = first_block (row ∷ []);
+-- three handles of published machines, of which the third is the product of the others
+pub may_cache : (p : Plan) (v : Note) (a b c : ℕ) (ra rb rc : List Row) (i j k : ℕ) (word : ℕ) → IsPublished p v a ra i → IsPublished p v b rb j → IsPublished p v c rc k → IsAlike (row_term rc k) (Product (row_term ra i) (row_term rb j)) → HasFewPairs p.letters (row_term ra i) (row_term rb j) → word ≡ product_word (a + i) (b + j) (c + k) → MayCache p v word
+may_cache p v a b c ra rb rc i j k word x y z product few is = record {
+  first = a + i;
+  second = b + j;
+  third = c + k;
+  first_block = block_at a ra;
+  second_block = block_at b rb;
+  third_block = block_at c rc;
   names = is;
-  first_seen = known.handles 0 (omega arith);
-  second_seen = known.handles 0 (omega arith);
-  third_seen = known.handles 0 (omega arith);
-  product = λ Y admits. subst (λ (t : Term). IsAlike t (Product t t)) (sym (meaning Y (admitted_agrees p v.facts Y admits))) (square p.letters row m id);
-  few = λ Y admits. subst (λ (t : Term). HasFewPairs p.letters t t) (sym (meaning Y (admitted_agrees p v.facts Y admits))) (few p.letters row m id);
+  first_seen = x.2.handles i x.0;
+  second_seen = y.2.handles j y.0;
+  third_seen = z.2.handles k z.0;
+  product = λ Y admits. subst (λ (t : Term × (Term × Term)). IsAlike t.0 (Product t.1.0 t.1.1)) (λ n. (sym (three Y admits) n, (sym (one Y admits) n, sym (two Y admits) n))) product;
+  few = λ Y admits. subst (λ (t : Term × Term). HasFewPairs p.letters t.0 t.1) (λ n. (sym (one Y admits) n, sym (two Y admits) n)) few;
 }
   where
-    meaning : (Y : ℕ → ℕ) → Agrees v.facts Y → row_meaning p Y (first_block (row ∷ [])) 0 ≡ row_term (row ∷ []) 0
-    meaning Y agrees = means p (row ∷ []) m v.facts known.fields Y agrees 0
+    one : (Y : ℕ → ℕ) → Admits p v.facts Y → row_meaning p Y (block_at a ra) (a + i) ≡ row_term ra i
+    one Y admits = means p a ra x.1 v.facts x.2.fields Y (admitted_agrees p v.facts Y admits) i
+
+    two : (Y : ℕ → ℕ) → Admits p v.facts Y → row_meaning p Y (block_at b rb) (b + j) ≡ row_term rb j
+    two Y admits = means p b rb y.1 v.facts y.2.fields Y (admitted_agrees p v.facts Y admits) j
+
+    three : (Y : ℕ → ℕ) → Admits p v.facts Y → row_meaning p Y (block_at c rc) (c + k) ≡ row_term rc k
+    three Y admits = means p c rc z.1 v.facts z.2.fields Y (admitted_agrees p v.facts Y admits) k

@@ -17,8 +17,12 @@ fn the_identity_is_published(rt: HostRuntime) -> Result<(), Fail> {
         perm: Perm::identity(a),
         next: [0; 8],
     };
-    assert!(rt; publish_rows(&mut scratch, &mut code, a, &[identity], &words, &mut hand));
-    assert_eq!(rt; cache_square(&identity, &words, &mut hand), 0);
+    let Some(start) = publish_rows(&mut scratch, &mut code, a, &[identity], &words, &mut hand)
+    else {
+        panic!(rt; "the table has room")
+    };
+    assert_eq!(rt; start, 0);
+    assert_eq!(rt; cache_square(&identity, start, &words, &mut hand), 0);
     assert_eq!(rt; hand.cache_word(&words, 0), 1);
     assert_eq!(rt; hand.cell(&words, 0), 1);
     assert_eq!(rt; hand.link(&words, 0), 1);
@@ -45,7 +49,7 @@ fn the_adding_machine_is_published_with_the_identity(rt: HostRuntime) -> Result<
         perm: Perm::identity(a),
         next: [1, 1, 0, 0, 0, 0, 0, 0],
     };
-    assert!(rt;
+    assert_eq!(rt;
         publish_rows(
             &mut scratch,
             &mut code,
@@ -53,7 +57,8 @@ fn the_adding_machine_is_published_with_the_identity(rt: HostRuntime) -> Result<
             &[adding, identity],
             &words,
             &mut hand
-        )
+        ),
+        Some(0)
     );
     assert_eq!(rt; hand.look_claim(&words), 2);
     assert_eq!(rt; hand.cell(&words, 15), 1025);
