@@ -124,6 +124,15 @@ impl Perm {
         self.images[x as usize - 1]
     }
 
+    /// The letter that the permutation sends to the letter `y`.
+    pub fn apply_back(&self, y: u8) -> u8
+        requires { IsLetter (length self.now) y }
+        ensures value { result ≡ preimage self.now y }
+        ensures letter { IsLetter (length self.now) result }
+    {
+        place_of(&self.images[..self.count as usize], y)
+    }
+
     /// First this permutation, then `q`, which permutes the same letters.
     pub fn then(&self, q: &Perm) -> Perm
         requires { length self.now ≡ length q.now }
@@ -160,7 +169,8 @@ impl Perm {
     /// by the code of Lehmer.
     pub fn rank(&self) -> u32
         ensures value { result ≡ rank self.now }
-        ensures below { result < 40320 }
+        ensures below { result < factorial (length self.now) }
+        ensures most { result < 40320 }
     {
         rank_of(&self.images[..self.count as usize])
     }

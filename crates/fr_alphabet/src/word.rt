@@ -8,9 +8,8 @@ ghost use Rattle.fr_alphabet.specs.Writing.{word_text};
 use crate::alphabet::Alphabet;
 use crate::memory::NoMemory;
 use std::alloc::{AllocError, AllocFailed, Global};
-use std::error::Error;
-use std::fmt;
 use std::marker::Model;
+use thiserror::Error;
 
 /// The most letters that a word has; also the most bytes of a text that is read as one.
 pub const WORD_LIMIT: usize = 4096;
@@ -34,27 +33,18 @@ impl Model for Word {
 }
 
 /// Why a text is no word.
-#[derive(Clone, Copy, Debug, PartialEq, Eq)]
+#[derive(Clone, Copy, Debug, PartialEq, Eq, Error)]
 pub enum WordFault {
     /// It has more than 4,096 bytes.
+    #[error("word too long")]
     WordTooLong,
     /// The byte at this place, counted from 1, is no letter.
+    #[error("no letter at {0}")]
     NotALetter(u32),
     /// There is no memory.
+    #[error("out of memory")]
     NoMemory,
 }
-
-impl fmt::Display for WordFault {
-    fn fmt<W: fmt::Write>(&self, f: &mut fmt::Formatter<W>) -> fmt::Result {
-        match self {
-            WordFault::WordTooLong => write!(f, "word too long"),
-            WordFault::NotALetter(place) => write!(f, "no letter at {place}"),
-            WordFault::NoMemory => write!(f, "no memory"),
-        }
-    }
-}
-
-impl Error for WordFault {}
 
 impl<T: Drop> From<AllocFailed<T>> for WordFault {
     ghost use Rattle.std.specs.Prelude.{◌≡◌};

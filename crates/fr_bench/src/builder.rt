@@ -36,6 +36,13 @@ impl Builder {
         Ok(())
     }
 
+    /// One row more, which permutes the letters as the permutation of this rank; `Usage` where there is none.
+    pub fn push_ranked(&mut self, rank: u32, next: [u16; 8]) -> Result<(), Stop> {
+        let perm = Perm::of_rank(self.alphabet, rank).ok_or(Stop::Usage)?;
+        self.rows.push(Row { perm, next })?;
+        Ok(())
+    }
+
     /// The machine of the rows; `Usage` where they are none.
     pub fn finish(self) -> Result<Machine, Stop> {
         Machine::new(self.alphabet, self.rows).ok_or(Stop::Usage)

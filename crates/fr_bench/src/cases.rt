@@ -6,7 +6,7 @@ use crate::answer::{Answer, Stop};
 use crate::codes::{list, scattered};
 use crate::cycles::{cycle, half_cycle};
 use crate::growths::{Kind, classify, growing};
-use crate::partitions::{chain, count_classes, drawn, halves, reversed};
+use crate::partitions::{chain, count_classes, drawn, halves, reversed, watched};
 use crate::products::multiply;
 use crate::rays::find_image;
 use crate::separations::tell_apart;
@@ -17,7 +17,8 @@ use std::str::SplitWhitespace;
 
 /// Runs a case. It is a name, its parts, and how often the call is made, where that is not once; numbers are 1 to 65,536.
 ///
-/// - `classes chain N`, `classes reversed N`, `classes drawn N`, `classes halves N`: the classes of N rows.
+/// - `classes chain N`, `classes reversed N`, `classes drawn N`, `classes halves N`, `classes watched N`: the classes of N
+///   rows.
 /// - `product P Q`: of cycles of P and Q states that both letters go along, at most 1,024.
 /// - `grid P Q`: of cycles of P and Q states, at most 1,024, of which one letter goes along the one and the other along the
 ///   other, so that there are P Q pairs.
@@ -84,6 +85,8 @@ fn machine(alloc: Global, kind: &str, count: u32) -> Result<Machine, Stop>
         drawn(alloc, count)
     } else if kind == "halves" {
         halves(alloc, count)
+    } else if kind == "watched" {
+        watched(alloc, count)
     } else {
         Err(Stop::Usage)
     }

@@ -1,4 +1,4 @@
-//! The classes of rows of machines over two letters.
+//! The classes of rows of machines.
 
 ghost use Rattle.std.specs.Prelude.{◌<◌, ◌≤◌};
 
@@ -54,6 +54,23 @@ pub fn halves(alloc: Global, count: u32) -> Result<Machine, Stop>
         let alike = i <= count / 2;
         let next = if alike { i } else { i - 1 };
         builder.push(alike, nexts(next, next))?;
+    }
+    builder.finish()
+}
+
+/// Over eight letters, where the others have two: half of the rows are a chain, in which each leads to the one before it,
+/// and for each of these there is a row with a permutation of its own that leads to it. In each round one row of the chain
+/// comes to another class, and the one that watches it is alone in its own, which takes squared time where a round looks at
+/// all classes.
+pub fn watched(alloc: Global, count: u32) -> Result<Machine, Stop>
+    requires { count ≤ 65536 }
+{
+    let mut builder = Builder::new(alloc, 8)?;
+    for k in 0..count / 2 {
+        builder.push(k == 0, [k.saturating_sub(1) as u16; 8])?;
+    }
+    for k in 0..count / 2 {
+        builder.push_ranked(k + 2, [k as u16; 8])?;
     }
     builder.finish()
 }

@@ -1,3 +1,4 @@
+pub mod ChoiceLaws
 pub mod CleanCountLaws
 pub mod FindLaws
 pub mod GrowingLaws

@@ -98,7 +98,7 @@ IsRefining-wider rows p q w h =
 
 -- the list of dirty rows is taken out
 abbrev pub without_todo : Partition → Vec ℕ Global → Partition
-without_todo p t = record { of = p.of; known = p.known; clean = p.clean; dirty = p.dirty; todo = t }
+without_todo p t = record { of = p.of; known = p.known; clean = p.clean; dirty = p.dirty; leads = p.leads; todo = t }
 
 pub IsRefining-todo : (rows : List Row) (p : Partition) (t : Vec ℕ Global) → IsRefining rows p → IsRefining rows (without_todo p t)
 IsRefining-todo rows p t h = record {

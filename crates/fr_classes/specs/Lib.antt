@@ -8,3 +8,4 @@ pub mod Sparse
 pub mod Hashes
 pub mod Guesses
 pub mod Growing
+pub mod Choices

@@ -41,6 +41,10 @@ known_at p c = slice_index_or p.known.items c []
 abbrev pub clean_at : Partition → ℕ → ℕ
 clean_at p c = slice_index p.clean.items c
 
+-- how many more rows were for the signature of class c than against it
+abbrev pub lead_at : Partition → ℕ → ℕ
+lead_at p c = slice_index p.leads.items c
+
 -- each class number is in range, and the clean rows of each class are counted
 pub record IsTallied (p : Partition) : Type 0 where
   pub flags : length p.dirty.items ≡ length p.of.items
@@ -79,15 +83,15 @@ abbrev pub IsOfWork : List Signed → ℕ → ℕ → List ℕ → Type 0
 IsOfWork work n c q = (k : ℕ) × (k < n) × ((work_at work k).class ≡ c) × ((work_at work k).signature ≡ q)
 
 -- a row with its class and signature was counted for or against the signature of its class, if that has no clean row
-pub record IsVoted (p p' : Partition) (leads leads' : List ℕ) (c : ℕ) (q : List ℕ) : Type 0 where
+pub record IsVoted (p p' : Partition) (c : ℕ) (q : List ℕ) : Type 0 where
   pub of : p'.of.items ≡ p.of.items
   pub clean : p'.clean.items ≡ p.clean.items
   pub dirty : p'.dirty.items ≡ p.dirty.items
   pub todo : p'.todo.items ≡ p.todo.items
-  pub as_many : length leads' ≡ length leads
+  pub as_many : length p'.leads.items ≡ length p.leads.items
   pub size : length p'.known.items ≡ length p.known.items
-  pub others : (j : ℕ) → (j ≢ c) ⊎ (0 < clean_at p c) → (known_at p' j ≡ known_at p j) × (slice_index leads' j ≡ slice_index leads j)
-  pub own : (known_at p' c ≡ q) ⊎ ((known_at p' c ≡ known_at p c) × ((0 < slice_index leads c) ⊎ (0 < clean_at p c)))
+  pub others : (j : ℕ) → (j ≢ c) ⊎ (0 < clean_at p c) → (known_at p' j ≡ known_at p j) × (lead_at p' j ≡ lead_at p j)
+  pub own : (known_at p' c ≡ q) ⊎ ((known_at p' c ≡ known_at p c) × ((0 < lead_at p c) ⊎ (0 < clean_at p c)))
 
 -- each class of the rows that has no clean one has the signature of one of them, and no other class has another one than before
 pub record IsElected (p p' : Partition) (work : List Signed) : Type 0 where

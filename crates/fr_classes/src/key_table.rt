@@ -97,6 +97,7 @@ fn bucket_count(count: usize) -> usize
     match count {
         0..64 => 16,
         64..1024 => 256,
-        _ => 4096,
+        1024..16384 => 4096,
+        _ => 65536,
     }
 }

@@ -1,6 +1,7 @@
 //! Which rows of a machine act alike.
 #![tactic(auto)]
 
+mod choices;
 mod growing;
 mod hashes;
 mod key_table;
@@ -13,5 +14,6 @@ mod sparse;
 #[cfg(test)]
 mod tests;
 
+pub use choices::choice;
 pub use growing::GrowingClasses;
 pub use partition::{classes, classes_within};

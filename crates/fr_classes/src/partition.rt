@@ -1,6 +1,6 @@
 //! Rows that act alike, found by refining a partition of all rows.
 
-ghost use Rattle.std.specs.Prelude.{◌≡◌, ◌≢◌, ℕ, ◌<◌, ◌≤◌, ◌⊎◌, Some, None, [], ◌∷◌, IfOk, OnOk, MatchOption, length, true, slice_index_or, replicate};
+ghost use Rattle.std.specs.Prelude.{◌≡◌, ◌≢◌, ℕ, ◌<◌, ◌≤◌, ◌⊎◌, Some, None, [], ◌∷◌, IfOk, OnOk, MatchOption, length, true, slice_index, slice_index_or, replicate};
 ghost use Rattle.fr_model.specs.Permutations.{numbers_from};
 ghost use Rattle.std.specs.List.{All, Contains};
 ghost use Rattle.fr_machine.specs.Rows.{IsRow, IsMachine};
@@ -208,6 +208,9 @@ struct Partition {
     dirty: Vec<bool>,
     // The dirty rows.
     todo: Vec<u16>,
+    // For each class how many more rows were for its signature in its latest vote than against it. Later classes may have no
+    // entry yet.
+    leads: Vec<u32>,
 }
 
 impl Partition {
@@ -232,6 +235,7 @@ impl Partition {
             clean: vec![in alloc; 0u32; count]?,
             dirty,
             todo,
+            leads: Vec::new(alloc),
         })
     }
 
@@ -314,7 +318,7 @@ impl Partition {
         ensures { IfOk result (λ moved. IsSettled rows.now self.old.of.items (length self.old.known.items) self.new moved.items) }
     {
         let work = with_signatures(alloc, rows, &self.of, todo)?;
-        self.elect(alloc, &work)?;
+        self.elect(&work)?;
         let mut seen = KeyTable::new(alloc, work.len())?;
         let mut moved = Vec::new(alloc);
         for item in &work {
@@ -327,8 +331,9 @@ impl Partition {
 
     // Takes for the signature of each class that has no clean row, and a row among these, that of one of them: the one that
     // more than half of them have, if there is one, by the majority vote of Boyer and Moore. So such a class leaves its
-    // number to most of its rows; this is for speed alone.
-    fn elect(&mut self, alloc: Global, work: &[Signed]) -> Result<(), NoMemory>
+    // number to most of its rows; this is for speed alone. Only the classes of these rows are looked at, as there may be as
+    // many rounds as classes.
+    fn elect(&mut self, work: &[Signed]) -> Result<(), NoMemory>
         requires classes { All (λ w. w.class < length self.old.known.items) work.now }
         requires as_many { length self.old.clean.items ≡ length self.old.known.items }
         ensures { OnOk result (IsElected self.old self.new work.now) }
@@ -336,9 +341,10 @@ impl Partition {
         if self.have_clean(work) {
             return Ok(());
         }
-        let mut leads = vec![in alloc; 0u32; self.known.len()]?;
+        self.leads.resize(self.known.len(), 0)?;
+        clear(&mut self.leads, work);
         for item in work {
-            self.vote(&mut leads, item);
+            self.vote(item);
         }
         Ok(())
     }
@@ -357,24 +363,24 @@ impl Partition {
         true
     }
 
-    // Counts a row for or against the signature of its class. `leads` has for each class how many more were for it.
-    fn vote(&mut self, leads: &mut Vec<u32>, item: &Signed)
+    // Counts a row for or against the signature of its class.
+    fn vote(&mut self, item: &Signed)
         requires class { item.now.class < length self.old.known.items }
         requires as_many { length self.old.clean.items ≡ length self.old.known.items }
-        requires leads { length leads.old.items ≡ length self.old.known.items }
-        ensures { IsVoted self.old self.new leads.old.items leads.new.items item.now.class item.now.signature }
+        requires leads { length self.old.leads.items ≡ length self.old.known.items }
+        ensures { IsVoted self.old self.new item.now.class item.now.signature }
     {
         let class = item.class as usize;
         if self.clean[class] > 0 {
             return;
         }
         if self.known[class] == item.signature {
-            leads[class] = leads[class].saturating_add(1);
-        } else if leads[class] > 0 {
-            leads[class] -= 1;
+            self.leads[class] = self.leads[class].saturating_add(1);
+        } else if self.leads[class] > 0 {
+            self.leads[class] -= 1;
         } else {
             self.known[class] = item.signature;
-            leads[class] = 1;
+            self.leads[class] = 1;
         }
     }
 
@@ -474,6 +480,17 @@ impl Partition {
         self.clean[self.of[s] as usize] -= 1;
         self.todo.push(row)?;
         Ok(())
+    }
+}
+
+// Sets back the leads of the classes of these rows.
+fn clear(leads: &mut Vec<u32>, work: &[Signed])
+    requires { All (λ w. w.class < length leads.old.items) work.now }
+    ensures count { length leads.new.items ≡ length leads.old.items }
+    ensures none { (k : ℕ) → k < length work.now → slice_index leads.new.items (work_at work.now k).class ≡ 0 }
+{
+    for item in work {
+        leads[item.class as usize] = 0;
     }
 }
 

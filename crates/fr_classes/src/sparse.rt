@@ -79,8 +79,8 @@ impl SparseWalk {
     }
 }
 
-// The most buckets of a walk.
-const MOST_BUCKETS: usize = 4096;
+// The most buckets of a walk: as many as there are keys at most, so that hashes that are good have a bucket each.
+const MOST_BUCKETS: usize = 65536;
 
 // How many buckets serve about so many keys: chains stay short, and the table is soon made.
 fn buckets_for(count: usize) -> usize
@@ -90,6 +90,8 @@ fn buckets_for(count: usize) -> usize
         0..=63 => 64,
         64..=255 => 256,
         256..=1023 => 1024,
+        1024..=4095 => 4096,
+        4096..=16383 => 16384,
         _ => MOST_BUCKETS,
     }
 }

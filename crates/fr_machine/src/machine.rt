@@ -222,7 +222,7 @@ impl Machine {
         ensures value { result ≡ preimage (state_at (states_of self.now.rows) s).perm y }
         ensures letter { IsLetter self.now.alphabet result }
     {
-        self.rows[s as usize].perm.inverse().apply(y)
+        self.rows[s as usize].perm.apply_back(y)
     }
 }
 

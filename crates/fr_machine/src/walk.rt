@@ -1,6 +1,6 @@
 //! Walks that number keys in the order in which they meet them.
 
-ghost use Rattle.std.specs.Prelude.{◌≡◌, ◌<◌, ◌≤◌, [], IfOk, MatchOption, MatchResult, length, slice_index};
+ghost use Rattle.std.specs.Prelude.{◌≡◌, ◌<◌, ◌≤◌, [], ◌∷◌, IfOk, MatchOption, MatchResult, length, slice_index};
 ghost use Rattle.std.specs.List.{Contains};
 ghost use Rattle.fr_machine.specs.Walks.{IsKeys, IsNumbered, IsPassed};
 
@@ -41,6 +41,16 @@ impl Walk {
             index: vec![in alloc; 0u32; bound]?,
             keys: Vec::with_capacity(alloc, bound.min(FIRST_ROOM))?,
         })
+    }
+
+    /// A walk over keys below a bound that has met this key alone. The only error is want of memory.
+    pub fn from_key(alloc: Global, bound: usize, key: u32) -> Result<Walk, NoMemory>
+        requires { key < bound }
+        ensures { IfOk result (λ w. w ≡ record { bound = bound; keys = key ∷ [] }) }
+    {
+        let mut walk = Walk::new(alloc, bound)?;
+        walk.number(key, 1)?;
+        Ok(walk)
     }
 
     /// The keys that were met, in the order of their numbers.
