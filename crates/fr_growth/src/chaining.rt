@@ -33,10 +33,10 @@ pub fn find_chain(
     ensures chain { IfOk result (λ links. IsStateChain m.now.alphabet (states_of m.now.rows) (unmarked moving.now) 0 links.items) }
 {
     let machine = m.machine();
-    let mut links = Vec::new(alloc);
+    let mut level = levels.value_of(numbers[0]);
+    let mut links = Vec::with_capacity(alloc, level as usize)?;
     let mut word = Vec::new(alloc);
     let mut at = 0;
-    let mut level = levels.value_of(numbers[0]);
     while level > 0 {
         let head = levels.head_of(numbers[at as usize]);
         walk(m, moving, numbers, returns, at, head, &mut word)?;
