@@ -1,5 +1,5 @@
 -- The numbers that certificates tell: bounds on how many words of each length a term is active at. This project's own.
-use Rattle.std.specs.Prelude.{ℕ, ◌≡◌, ◌+◌, ◌*◌, ◌^◌, ◌≤◌, ◌↔◌, List, [], ◌∷◌, length}
+use Rattle.std.specs.Prelude.{ℕ, ◌+◌, ◌*◌, ◌^◌, ◌≤◌, ◌↔◌, List, [], ◌∷◌, length}
 use Rattle.fr_model.specs.Terms.{Term}
 use Rattle.fr_model.specs.Activity.{IsActivity, Link}
 use Rattle.fr_growth.specs.declared.growth_class.Class.{Class}
