@@ -1,16 +1,15 @@
 -- The codes of the states of an automaton, as walks list them.
 use Rattle.std.proofs.Common.{ℕ, suc, ◌≡◌, ◌-◌, ◌<◌, ◌≤◌, List, [], ◌∷◌, ◌++◌, length, map, take, get_or, replicate, refl, sym, ◌∙◌, subst, arith}
 use Rattle.std.proofs.lemmas.List.{get_or-map, length-map, length-append, length-replicate, get_or_append_left, get_or-append_right, get_or-replicate, take-append-le, take_all}
-use Rattle.fr_model.specs.Automata.{State, next_state, state_term, IsState, IsAutomaton}
+use Rattle.fr_model.specs.Automata.{State, state_term, IsState, IsAutomaton}
 use Rattle.fr_model.specs.Canonical.{IsCode}
 use Rattle.fr_model.specs.Terms.{IsAlike}
 use Rattle.fr_machine.specs.declared.row.Row.{Row}
 use Rattle.fr_machine.specs.Rows.{state_of, states_of, row_at, IsRow, IsMachine}
 use Rattle.fr_machine.specs.Minimal.{AreUnlike}
 use Rattle.fr_machine.proofs.RowLaws.{IsRow-filled, IsMachine-rows}
-use Rattle.fr_canon.specs.Listings.{row_output}
 use Rattle.fr_canon.specs.Walked.{row_code, state_code}
-use Rattle.fr_canon.specs.Laws.{AreApart, StatesHaveCodes}
+use Rattle.fr_canon.specs.Laws.{StatesHaveCodes}
 use Rattle.fr_canon.proofs.WalkedLaws.{IsCode-row_code}
 
 -- a state as a row of a machine

@@ -1,4 +1,4 @@
-use Rattle.std.proofs.Common.{ℕ, arith, refl, subst, sym, ◌<◌, length}
+use Rattle.std.proofs.Common.{ℕ, arith, refl, subst, ◌<◌, length}
 use Rattle.fr_model.specs.Canonical.{IsCanonical, IsCode}
 use Rattle.fr_model.proofs.AutomatonLaws.{IsTerm-state_term}
 use Rattle.fr_model.proofs.CanonicalLaws.{at_zero}
