@@ -1,10 +1,12 @@
 pub mod ListingLaws
 pub mod ApartLaws
 pub mod WalkedLaws
+pub mod StateCodeLaws
 pub mod MinimalLaws
 pub mod ComparingLaws
 pub mod RowListLaws
 pub mod PrintLaws
+pub mod CodeRowLaws
 pub mod SplitLaws
 pub mod ReadLaws
 pub mod CycleReadLaws

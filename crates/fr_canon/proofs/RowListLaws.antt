@@ -3,7 +3,7 @@ use Rattle.std.proofs.Common.{ℕ, ◌≡◌, ◌+◌, ◌<◌, ◌≤◌, inl, 
 use Rattle.std.proofs.lemmas.Bool.{cases_lt}
 use Rattle.std.proofs.lemmas.List.{get_or-map, get_or-take, get_or_append_left, get_or_push, length_push}
 use Rattle.std.proofs.lemmas.List.Elements.{All-get_or}
-use Rattle.fr_model.specs.Terms.{Term}
+use Rattle.fr_model.specs.Terms.{Term, IsTerm}
 use Rattle.fr_model.specs.Automata.{State, state_at, next_state, IsState}
 use Rattle.fr_model.specs.Canonical.{IsCanonical}
 use Rattle.fr_model.proofs.AutomatonLaws.{state_is}
@@ -47,6 +47,18 @@ row_of_state d n r low some s f = IsRow-filled d n r low some s.permutes f.width
     (λ x l. (let small : x < length r.perm = omega (arith, l, f.degree) in omega (arith, get_or-take (length r.perm) r.next x 0 small, All-get_or (λ m. m < n) (state_of r).next x 0 (omega (arith, l, s.arity)) s.below)))
     f.zeros
 
+-- rows whose states are the canonical numbering are a minimal machine
+module _ (d : ℕ) (t : Term) (valid : IsTerm d t) (found : List Row) (c : IsCanonical d t (states_of found)) (filled : (i : ℕ) → i < length found → IsFilled d (row_at found i)) (two : 2 ≤ d) (low : d ≤ 8) where
+  rows-valid : (i : ℕ) → i < length found → IsRow d (length found) (row_at found i)
+  rows-valid i l =
+      let n : length (states_of found) ≡ length found = length-states_of found in
+      let q : state_at (states_of found) i ≡ state_of (row_at found i) = get_or-map state_of found i (record { perm = []; next = [] }) (record { perm = []; next = [] }) l in
+      let is = state_is d (states_of found) i c.automaton (omega (arith, l, n)) in
+      row_of_state d (length found) (row_at found i) low (omega (arith, l)) (rw n at (rw q at is)) (filled i l)
+
+  pub IsMinimal-filled : 1 ≤ length found → length found ≤ 1024 → IsMinimal d found
+  IsMinimal-filled some few = IsMinimal-canonical d t valid found c (IsMachine-rows d found two low some (omega (arith, few)) rows-valid) few
+
 module _ (d : ℕ) (rows : List Row) (m : IsMachine d rows) (others : AreUnlike rows) (s : ℕ) (sl : s < length rows) (keys : List ℕ) (j : ℕ) (found : List Row) (h : AreRowsListed d (length rows) (next_state (states_of rows)) (row_output (states_of rows)) s keys j found) (keyed : IsKeys 1024 keys) (all : length keys ≤ j) (few : j ≤ 1024) where
   abbrev t : Term
   t = row_term rows s
@@ -57,15 +69,7 @@ module _ (d : ℕ) (rows : List Row) (m : IsMachine d rows) (others : AreUnlike 
       let P : ℕ → Type 0 = λ i. IsListed d (length rows) (next_state (states_of rows)) (row_output (states_of rows)) s keys i (states_of found) in
       IsCanonical-listed d rows m others s sl keys (states_of found) (subst P e h.listed) keyed
 
-  rows-valid : (i : ℕ) → i < length found → IsRow d (length found) (row_at found i)
-  rows-valid i l =
-      let n : length (states_of found) ≡ length found = length-states_of found in
-      let q : state_at (states_of found) i ≡ state_of (row_at found i) = get_or-map state_of found i (record { perm = []; next = [] }) (record { perm = []; next = [] }) l in
-      let is = state_is d (states_of found) i IsCanonical-rows.automaton (omega (arith, l, n)) in
-      row_of_state d (length found) (row_at found i) m.letters (omega (arith, l)) (rw n at (rw q at is)) (h.filled i l)
-
   pub IsMinimal-rows : IsMinimal d found
   IsMinimal-rows =
       let count : length found ≡ j = sym (length-states_of found) ∙ h.listed.count in
-      let machine : IsMachine d found = IsMachine-rows d found m.few m.letters (omega (arith, count, all, h.listed.ordered.some)) (omega (arith, count, few)) rows-valid in
-      IsMinimal-canonical d t (IsTerm-row_term d rows s m sl) found IsCanonical-rows machine (omega (arith, count, few))
+      IsMinimal-filled d t (IsTerm-row_term d rows s m sl) found IsCanonical-rows h.filled m.few m.letters (omega (arith, count, all, h.listed.ordered.some)) (omega (arith, count, few))

@@ -16,7 +16,7 @@ use Rattle.fr_machine.proofs.RowLaws.{IsAutomaton-states_of, length-states_of}
 use Rattle.fr_canon.specs.Listings.{row_output, IsNextPart, IsKeyListed, IsListed}
 use Rattle.fr_canon.proofs.ListingLaws.{IsNextPart-start, IsNextPart-more, IsKeyListed-from, IsWritten, IsWritten-start, IsWritten-more, IsCode-listed}
 use Rattle.fr_canon.proofs.ApartLaws.{length-le_apart}
-use Rattle.fr_canon.specs.Walked.{Walked, number_of, meeting, with_nexts, with_state, walked, row_code}
+use Rattle.fr_canon.specs.Walked.{Walked, number_of, meeting, with_nexts, with_state, walked, state_code, row_code}
 
 -- keys below 1,024, no two equal
 record AreApart (keys : List ℕ) : Type 0 where
@@ -206,7 +206,7 @@ module _ (d : ℕ) (rows : List Row) (machine : IsMachine d rows) (few : length 
             (is_code w all h a, short w.keys j w.code h a)
 
     pub row_code-is : IsCode d (row_term rows s) (row_code d rows s) × (length (row_code d rows s) ≤ (d + 1) * 1024)
-    unfolding row_code
+    unfolding row_code state_code
     row_code-is =
         listed 1024 0 (record { keys = s ∷ []; code = [] }) (IsWritten-start d (length rows) step output s (s ∷ []) [] row refl refl) (record {
           below = λ i l. one_below i l;

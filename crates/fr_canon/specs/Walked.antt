@@ -1,10 +1,10 @@
--- The code of a row, as a breadth-first walk with letters in order lists it: what a store on rows knows of a handle. What
--- is known has to be a function, so the walk is written out here; that this is the code of the element in the sense of the
--- relation between terms and codes is shown by `AreHandles`, which ties each code that is known to a term. This project's
--- own, on the pattern of the standard numbering of a minimal automaton.
+-- The code of a state, or of a row, as a breadth-first walk with letters in order lists it: what a store knows of a handle.
+-- What is known has to be a function, so the walk is written out here; that this is the code of the element in the sense of
+-- the relation between terms and codes is said by `StatesHaveCodes`. This project's own, on the pattern of the standard
+-- numbering of a minimal automaton.
 use Rattle.std.specs.Prelude.{ℕ, zero, suc, ◌==◌, nat_lt, if◌then◌else◌, List, [], ◌∷◌, ◌++◌, length, slice_index}
 use Rattle.fr_model.specs.Ranks.{rank}
-use Rattle.fr_model.specs.Automata.{next_state}
+use Rattle.fr_model.specs.Automata.{State, next_state}
 use Rattle.fr_machine.specs.declared.row.Row.{Row}
 use Rattle.fr_machine.specs.Rows.{states_of}
 use Rattle.fr_canon.specs.Listings.{row_output}
@@ -42,6 +42,10 @@ abbrev pub walked : ℕ → (ℕ → ℕ → ℕ) → (ℕ → List ℕ) → ℕ
 walked d step output zero j w = w.code
 walked d step output (suc most) j w = if nat_lt j (length w.keys) then walked d step output most (suc j) (with_state d step output w (slice_index w.keys j)) else w.code
 
+-- the code of a state of an automaton over d letters
+unfoldable pub state_code : ℕ → List State → ℕ → List ℕ
+state_code d qs s = walked d (next_state qs) (row_output qs) 1024 0 (record { keys = s ∷ []; code = [] })
+
 -- the code of a row
 unfoldable pub row_code : ℕ → List Row → ℕ → List ℕ
-row_code d rows s = walked d (next_state (states_of rows)) (row_output (states_of rows)) 1024 0 (record { keys = s ∷ []; code = [] })
+row_code d rows s = state_code d (states_of rows) s

@@ -1,5 +1,5 @@
 //! The canonical numbering of an element, as a breadth-first walk with letters in order meets its sections, its machine
-//! and its code. This project's own, on the pattern of the standard numbering of a minimal automaton.
+//! and its code, on the pattern of the standard numbering of a minimal automaton.
 
 ghost use Rattle.std.specs.Prelude.{◌≡◌, ℕ, ◌<◌, ◌≤◌, ◌+◌, ◌*◌, ◌↔◌, ◌++◌, List, [], ◌∷◌, IsTrue, IfOk, length, take, drop};
 ghost use Rattle.fr_machine.specs.Rows.{IsMachine, state_of, states_of, row_term};
@@ -225,14 +225,15 @@ pub fn has_code(scratch: &mut Scratch, a: Alphabet, rows: &[Row], s: u16, code: 
 }
 
 /// Makes `out` the code of row `s` of rows that lie in no `Minimal`: the code of the canonical numbering of its
-/// sections, this project's own. There are 1 to 1,024 rows, which meet the rules of a machine over the alphabet and
-/// are pairwise unlike. This takes no memory.
+/// sections. There are 1 to 1,024 rows, which meet the rules of a machine over the alphabet and are pairwise unlike. The
+/// code has at most `d + 1` numbers a row, where the alphabet has d letters. This takes no memory.
 pub fn canon_rows(scratch: &mut Scratch, a: Alphabet, rows: &[Row], s: u16, out: &mut Code)
     requires machine { IsMachine a rows.now }
     requires few { length rows.now ≤ 1024 }
     requires unlike { AreUnlike rows.now }
     requires row { s < length rows.now }
     ensures code { IsCode a (row_term rows.now s) out.new }
+    ensures short { length out.new ≤ (a + 1) * 1024 }
 
     // It is the code of each term that acts alike, and such a term has no other.
     ensures alike { (t : Term) → IsAlike (row_term rows.now s) t → IsCode a t out.new }
@@ -246,6 +247,7 @@ pub fn canon_rows(scratch: &mut Scratch, a: Alphabet, rows: &[Row], s: u16, out:
 pub fn canon(scratch: &mut Scratch, m: &Minimal, s: u16, out: &mut Code)
     requires { s < length m.now.rows }
     ensures code { IsCode m.now.alphabet (row_term m.now.rows s) out.new }
+    ensures short { length out.new ≤ (m.now.alphabet + 1) * 1024 }
 
     // It is the code of each term that acts alike, and such a term has no other.
     ensures alike { (t : Term) → IsAlike (row_term m.now.rows s) t → IsCode m.now.alphabet t out.new }

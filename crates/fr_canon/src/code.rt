@@ -1,4 +1,4 @@
-//! Codes: lists of numbers that tell elements apart, and the hash by which a table finds them. This project's own.
+//! Codes: lists of numbers that tell elements apart, and the hash by which a table finds them.
 
 ghost use Rattle.std.specs.Prelude.{ℕ, ◌≡◌, ◌<◌, ◌≤◌, ◌^◌, [], ◌∷◌, ◌++◌, IfOk, length};
 ghost use Rattle.fr_canon.specs.Codes.{home_of};
@@ -62,7 +62,7 @@ impl Code {
 
 /// The cell at which a search for the code begins, in a table of so many cells, a power of two up to 2,097,152. The hash
 /// begins with 7; each number of the code in turn makes it 1,000,003 times itself and the number more, modulo 2^32. The
-/// cell is its 128th part, rounded down, modulo the number of cells. This project's own. This takes no memory.
+/// cell is its 128th part, rounded down, modulo the number of cells. This takes no memory.
 pub fn home(code: &Code, cells: u32) -> u32
     requires power { (k : ℕ) × (k ≤ 21) × (cells ≡ 2 ^ k) }
     ensures value { result ≡ home_of code.now cells }

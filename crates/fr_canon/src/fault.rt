@@ -2,31 +2,21 @@
 
 use fr_alphabet::NoMemory;
 use std::alloc::{AllocError, AllocFailed};
-use std::error::Error;
-use std::fmt;
+use thiserror::Error;
 
 /// Why a text is not that of the canonical machine of an element. Lines are counted from 1.
-#[derive(Clone, Copy, Debug, PartialEq, Eq)]
+#[derive(Clone, Copy, Debug, PartialEq, Eq, Error)]
 pub enum ReadFault {
     /// This line is the first that is not of its form.
+    #[error("syntax at line {0}")]
     Syntax(u32),
     /// The state of this line is not numbered as a walk meets it, or acts like an earlier state.
+    #[error("not canonical at line {0}")]
     NotCanonical(u32),
-    /// There is no memory.
+    /// Memory ran out.
+    #[error("out of memory")]
     NoMemory,
 }
-
-impl fmt::Display for ReadFault {
-    fn fmt<W: fmt::Write>(&self, f: &mut fmt::Formatter<W>) -> fmt::Result {
-        match self {
-            ReadFault::Syntax(line) => write!(f, "syntax at line {line}"),
-            ReadFault::NotCanonical(line) => write!(f, "not canonical at line {line}"),
-            ReadFault::NoMemory => write!(f, "no memory"),
-        }
-    }
-}
-
-impl Error for ReadFault {}
 
 impl From<NoMemory> for ReadFault {
     ghost use Rattle.std.specs.Prelude.{◌≡◌};

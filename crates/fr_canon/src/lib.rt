@@ -9,14 +9,18 @@ mod canonical;
 mod code;
 mod cycles;
 mod fault;
+mod laws;
 mod lines;
 mod printing;
 mod reading;
+mod rows;
 #[cfg(test)]
 mod tests;
 
 pub use canonical::{Scratch, alike, canon, canon_rows, canonical_machine, count_states, has_code};
 pub use code::{Code, home};
 pub use fault::ReadFault;
+pub use laws::states_have_codes;
 pub use printing::print_machine;
 pub use reading::read_machine;
+pub use rows::rows_of_code;

@@ -1,4 +1,4 @@
-//! The text of a machine, which lists its states in order. This project's own.
+//! The text of a machine, which lists its states in order.
 
 ghost use Rattle.std.specs.Prelude.{◌≡◌, ℕ, ◌≤◌, ◌+◌, ◌*◌, ◌++◌, List, drop, length, take, OnOk, OnErr};
 ghost use Rattle.std.specs.Fmt.{decimal};
@@ -12,7 +12,7 @@ use fr_alphabet::{Alphabet, NoMemory, Perm};
 
 /// Appends the text of the machine with this code: a line `states n`, then for each state k in order the line
 /// `k = <n1,..,nd>` with the numbers of its next states, and the cycles of its permutation behind. States are
-/// numbered from 1. The code is that of an element over the alphabet. The notation is this project's own.
+/// numbered from 1. The code is that of an element over the alphabet.
 ///
 /// The only error is want of memory; `out` is then as before.
 pub fn print_machine(a: Alphabet, code: &Code, out: &mut Vec<u8>) -> Result<(), NoMemory>
@@ -57,7 +57,7 @@ fn push_states(a: Alphabet, numbers: &[u32], out: &mut Vec<u8>) -> Result<(), No
 }
 
 // The part of a code that stands for state k, counted from 0.
-fn state_part(numbers: &[u32], width: usize, k: usize) -> &[u32]
+pub(crate) fn state_part(numbers: &[u32], width: usize, k: usize) -> &[u32]
     requires { k * width + width ≤ length numbers.now }
     ensures { result.now ≡ take width (drop (k * width) numbers.now) }
 {
@@ -100,9 +100,6 @@ fn push_decimal(n: u32, out: &mut Vec<u8>) -> Result<(), NoMemory>
     ensures ok { OnOk result (out.new.items ≡ out.old.items ++ decimal n) }
     ensures kept { take (length out.old.items) out.new.items ≡ out.old.items }
 {
-    if n >= 10 {
-        push_decimal(n / 10, out)?;
-    }
-    out.push(b'0' + (n % 10) as u8)?;
+    out.extend_from_slice(itoa::Buffer::new().format(n).as_bytes())?;
     Ok(())
 }

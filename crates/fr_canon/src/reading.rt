@@ -122,7 +122,7 @@ fn minimal_of(alloc: Global, a: Alphabet, rows: Vec<Row>) -> Result<Minimal, Rea
 
 /// Reads the machine of an element over the alphabet from its text, as `print_machine` writes it: exactly the texts of
 /// elements of at most 1,024 states are accepted. The rows of the machine are the states in order, and it stands for
-/// the first. The notation and the order of the tests are this project's own.
+/// the first.
 ///
 /// Errors, the first that holds: `Syntax(line)` with the first line that is not of its form; a line without its
 /// newline is not, a line that is missing has the number that it would have, and what stands behind the last state is a

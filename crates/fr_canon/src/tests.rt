@@ -19,6 +19,9 @@ fn elements_have_their_codes_and_homes(rt: HostRuntime) -> Result<(), Fail> {
         &[0, 2, 3, 1, 4, 4, 0, 2, 5, 0, 4, 4, 0, 4, 1][..]
     );
     assert!(rt; b.size() == 5);
+    let mut rows = Vec::with_capacity(rt.alloc(), 1024)?;
+    rows_of_code(a, &code, &mut rows);
+    assert!(rt; rows.as_slice() == b.machine().rows());
     canon(&mut scratch, &b, 3, &mut code);
     assert_eq!(rt; code.numbers(), &[0, 1, 1][..]);
     assert_eq!(rt; home(&code, 8), 0);

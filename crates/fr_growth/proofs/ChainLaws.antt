@@ -12,7 +12,8 @@ use Rattle.fr_model.proofs.AutomatonLaws.{section_state, state_after-lt}
 use Rattle.fr_model.proofs.ClassLaws.{count-le}
 use Rattle.fr_model.proofs.GrowthLaws.{section_one}
 use Rattle.fr_growth.specs.Walks.{NoWayBack, IsStateChain}
-use Rattle.fr_growth.specs.Growth.{ways, rounds, IsCounted, IsPolynomialBy, HasPolynomialNumbers, HasExponentialNumbers, HasFinitaryNumbers}
+use Rattle.fr_growth.specs.Growth.{ways, rounds, IsCounted, HasPolynomialNumbers, HasExponentialNumbers, HasFinitaryNumbers}
+use Rattle.fr_growth.specs.Classes.{IsPolynomialBy}
 use Rattle.fr_growth.proofs.WalkLaws.{live_words, parts_from_length, state_after-append, repeated, length-repeated, repeated-valid, repeated-back, words_along, live_words-double, live_words-from_chain}
 use Rattle.fr_growth.proofs.LayerLaws.{IsLayered, dead_or_live, chain_le, no_two_backs, live_words-le_polynomial}
 use Rattle.fr_growth.proofs.CountLaws.{list_live, LeadsLive, length-list_live, list_live-leads, list_live-distinct, list_live-whole}

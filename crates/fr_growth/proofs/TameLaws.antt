@@ -13,7 +13,8 @@ use Rattle.fr_machine.specs.Minimal.{IsMinimal}
 use Rattle.fr_growth.specs.Walks.{unmarked, IsStateChain}
 use Rattle.fr_growth.specs.Components.{AreComponents}
 use Rattle.fr_growth.specs.Levels.{AreMoving, AreReturns, AreLevels}
-use Rattle.fr_growth.specs.Growth.{IsPolynomialBy, HasPolynomialNumbers, HasFinitaryNumbers}
+use Rattle.fr_growth.specs.Growth.{HasPolynomialNumbers, HasFinitaryNumbers}
+use Rattle.fr_growth.specs.Classes.{IsPolynomialBy}
 use Rattle.fr_growth.proofs.LayerLaws.{IsLayered, live_words-end, dead_or_live}
 use Rattle.fr_growth.proofs.ChainLaws.{IsReduced, IsAt, at_section, dead_one, live_moves, polynomial_by, polynomial_numbers, finitary_numbers}
 use Rattle.fr_growth.proofs.LayerBridge.{level_at, numbers_rank, heights_rank, layered_rows, live_words-below}

@@ -1,14 +1,9 @@
--- The degree of a term with its chain, and the numbers that certificates tell: bounds on how many words of each length a
--- term is active at. The classes are Sidki's; the certificates and their bounds are this project's own.
-use Rattle.std.specs.Prelude.{ℕ, ◌≡◌, ◌+◌, ◌*◌, ◌^◌, ◌≤◌, ◌↔◌, List, [], ◌∷◌, length}
+-- The numbers that certificates tell: bounds on how many words of each length a term is active at. This project's own.
+use Rattle.std.specs.Prelude.{ℕ, ◌+◌, ◌*◌, ◌^◌, ◌≤◌, ◌↔◌, List, [], ◌∷◌, length}
 use Rattle.fr_model.specs.Terms.{Term}
-use Rattle.fr_model.specs.Activity.{IsActivity, Link, IsChain, HasDegree}
-
--- t has degree k, and the chain shows it
-pub record IsPolynomialBy (d : ℕ) (t : Term) (k : ℕ) (links : List Link) : Type 0 where
-  pub degree : HasDegree d t k
-  pub count : length links ≡ k + 1
-  pub chain : IsChain d t links
+use Rattle.fr_model.specs.Activity.{IsActivity, Link}
+use Rattle.fr_growth.specs.declared.growth_class.Class.{Class}
+use Rattle.fr_growth.specs.declared.growth_class.Class.TheVariants.{Finitary, Polynomial, Exponential}
 
 -- the letters on the ways from link to link
 abbrev pub ways : List Link → ℕ
@@ -39,3 +34,9 @@ pub record HasExponentialNumbers (d : ℕ) (t : Term) (at u : List ℕ) : Type 0
 pub record HasFinitaryNumbers (d : ℕ) (t : Term) (depth : ℕ) : Type 0 where
   pub counted : IsCounted d t
   pub none : (n : ℕ) → IsActivity d n t 0 ↔ (depth ≤ n)
+
+-- the numbers that the class tells, for a term with so many sections
+abbrev pub HasNumbers : ℕ → ℕ → Term → Class → Type 0
+HasNumbers d size t (Finitary depth) = HasFinitaryNumbers d t depth
+HasNumbers d size t (Polynomial degree chain) = HasPolynomialNumbers d size t degree chain.items
+HasNumbers d size t (Exponential at u v) = HasExponentialNumbers d t at u

@@ -60,3 +60,11 @@ pub record IsRaised (levels heads : List ℕ) (c level s : ℕ) (levels' heads' 
   pub least : level ≤ slice_index levels' c
   pub more : slice_index levels c ≤ slice_index levels' c
   pub at : ((slice_index levels' c ≡ slice_index levels c) × (slice_index heads' c ≡ slice_index heads c)) ⊎ ((slice_index levels' c ≡ level) × (slice_index heads' c ≡ s))
+
+-- a row that moves stays in its component at one letter at most
+pub record IsTame (d : ℕ) (rows : List Row) (numbers : List ℕ) : Type 0 where
+  pub moving : List ℕ
+  pub returns : List ℕ
+  pub marks : AreMoving rows moving
+  pub counts : AreReturns d rows moving numbers returns
+  pub few : (s : ℕ) → slice_index returns s ≤ 1

@@ -5,7 +5,7 @@ ghost use Rattle.fr_model.specs.Words.{IsLetter};
 ghost use Rattle.fr_machine.specs.Rows.{states_of};
 ghost use Rattle.fr_growth.specs.Walks.{IsStateChain, unmarked};
 ghost use Rattle.fr_growth.specs.Components.{AreComponents};
-ghost use Rattle.fr_growth.specs.Levels.{AreMoving, AreReturns, AreLevels, next_component};
+ghost use Rattle.fr_growth.specs.Levels.{AreMoving, AreReturns, AreLevels, IsTame, next_component};
 ghost use Rattle.fr_growth.specs.Chains.{IsAppended, IsRoundTrip, IsStayingLetter, IsLeavingLetter};
 
 use crate::growth_class::Link;
@@ -33,15 +33,15 @@ pub fn find_chain(
     ensures chain { IfOk result (λ links. IsStateChain m.now.alphabet (states_of m.now.rows) (unmarked moving.now) 0 links.items) }
 {
     let machine = m.machine();
-    let mut links = Vec::new(alloc);
+    let mut level = levels.value_of(numbers[0]);
+    let mut links = Vec::with_capacity(alloc, level as usize)?;
     let mut word = Vec::new(alloc);
     let mut at = 0;
-    let mut level = levels.value_of(numbers[0]);
     while level > 0 {
         let head = levels.head_of(numbers[at as usize]);
-        walk(m, moving, numbers, returns, at, head, &mut word)?;
+        walk(m, numbers, at, head, &mut word)?;
         if returns[head as usize] != 0 {
-            let back = round_trip(alloc, m, moving, numbers, returns, head)?;
+            let back = round_trip(alloc, m, numbers, head)?;
             links.push(Link {
                 at: Word::of_letters(word),
                 back: Word::of_letters(back),
@@ -62,24 +62,18 @@ pub fn find_chain(
 // Appends a word that leads from a row to another of its component.
 fn walk(
     m: &Minimal,
-    moving: &[u8],
     numbers: &[u16],
-    returns: &[u8],
     from: u16,
     to: u16,
     word: &mut Vec<u8>,
 ) -> Result<(), NoMemory>
     requires from { from < length m.now.rows }
     requires to { to < length m.now.rows }
-    requires moving { AreMoving m.now.rows moving.now }
     requires numbers { AreComponents m.now.alphabet m.now.rows numbers.now }
-    requires returns { AreReturns m.now.alphabet m.now.rows moving.now numbers.now returns.now }
-    requires few { (s : ℕ) → slice_index returns.now s ≤ 1 }
+    requires tame { IsTame m.now.alphabet m.now.rows numbers.now }
     requires inside { slice_index numbers.now to ≡ slice_index numbers.now from }
     ensures { OnOk result (IsAppended m.now.alphabet m.now.rows from to word.old.items word.new.items) }
 {
-    let _moving = moving;
-    let _returns = returns;
     let machine = m.machine();
     let mut at = from;
     while at != to {
@@ -91,35 +85,17 @@ fn walk(
 }
 
 // A word that leads from a row back to it.
-fn round_trip(
-    alloc: Global,
-    m: &Minimal,
-    moving: &[u8],
-    numbers: &[u16],
-    returns: &[u8],
-    row: u16,
-) -> Result<Vec<u8>, NoMemory>
+fn round_trip(alloc: Global, m: &Minimal, numbers: &[u16], row: u16) -> Result<Vec<u8>, NoMemory>
     requires row { row < length m.now.rows }
-    requires moving { AreMoving m.now.rows moving.now }
     requires numbers { AreComponents m.now.alphabet m.now.rows numbers.now }
-    requires returns { AreReturns m.now.alphabet m.now.rows moving.now numbers.now returns.now }
-    requires few { (s : ℕ) → slice_index returns.now s ≤ 1 }
-    requires some { slice_index returns.now row ≢ 0 }
+    requires some { (t : IsTame m.now.alphabet m.now.rows numbers.now) × (slice_index t.returns row ≢ 0) }
     ensures { IfOk result (λ w. IsRoundTrip m.now.alphabet m.now.rows row w.items) }
 {
     let machine = m.machine();
     let x = staying_letter(m, numbers, row);
     let mut word = Vec::new(alloc);
     word.push(x)?;
-    walk(
-        m,
-        moving,
-        numbers,
-        returns,
-        machine.next(row, x),
-        row,
-        &mut word,
-    )?;
+    walk(m, numbers, machine.next(row, x), row, &mut word)?;
     Ok(word)
 }
 

@@ -4,7 +4,8 @@ ghost use Rattle.std.specs.Prelude.{◌≡◌, ℕ, ◌<◌, ◌≤◌, IfOk, If
 ghost use Rattle.fr_machine.specs.Rows.{row_term};
 ghost use Rattle.fr_growth.specs.Components.{AreComponents, AreInOrder};
 ghost use Rattle.fr_growth.specs.Levels.{AreMoving, AreReturns};
-ghost use Rattle.fr_growth.specs.Classes.{IsClass, HasNumbers};
+ghost use Rattle.fr_growth.specs.Classes.{IsClass};
+ghost use Rattle.fr_growth.specs.Growth.{HasNumbers};
 
 use crate::chaining::find_chain;
 use crate::growth_class::Class;
@@ -20,7 +21,7 @@ use std::alloc::Global;
 /// The class of growth of the element of a minimal machine, with its certificate. The only error is want of memory.
 ///
 /// The classes and their reading from the cycles of an automaton are Sidki's (*Automorphisms of one-rooted trees:
-/// growth, circuit structure, and acyclicity*); the certificates are this project's own. The time is linear in the size
+/// growth, circuit structure, and acyclicity*). The time is linear in the size
 /// of the machine, but for the search of the two words of an exponential element.
 pub fn class(alloc: Global, m: &Minimal) -> Result<Class, NoMemory>
     // The depth is the least, the degree exact with a chain of degree + 1 links, the triple the least.

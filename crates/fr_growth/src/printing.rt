@@ -8,7 +8,7 @@ use crate::growth_class::Class;
 use fr_alphabet::{NoMemory, print_word};
 
 /// Appends the text of a class: `finitary D` with the depth, `bounded` for degree 0, `polynomial K` with a degree of at
-/// least 1, or `exponential at W by U V` with the words of the triple. This notation is the project's own.
+/// least 1, or `exponential at W by U V` with the words of the triple.
 ///
 /// The only error is want of memory; `out` is then as before.
 pub fn print_class(c: &Class, out: &mut Vec<u8>) -> Result<(), NoMemory>
@@ -62,9 +62,6 @@ fn push_decimal(n: u16, out: &mut Vec<u8>) -> Result<(), NoMemory>
     ensures ok { OnOk result (out.new.items ≡ out.old.items ++ decimal n) }
     ensures kept { take (length out.old.items) out.new.items ≡ out.old.items }
 {
-    if n >= 10 {
-        push_decimal(n / 10, out)?;
-    }
-    out.push(b'0' + (n % 10) as u8)?;
+    out.extend_from_slice(itoa::Buffer::new().format(n).as_bytes())?;
     Ok(())
 }

@@ -2,37 +2,27 @@
 
 use fr_alphabet::NoMemory;
 use std::alloc::{AllocError, AllocFailed};
-use std::error::Error;
-use std::fmt;
+use thiserror::Error;
 
 /// Why a text is no ray. Places are counted from 1, in bytes.
-#[derive(Clone, Copy, Debug, PartialEq, Eq)]
+#[derive(Clone, Copy, Debug, PartialEq, Eq, Error)]
 pub enum RayText {
     /// It has more than 4,098 bytes.
+    #[error("word too long")]
     WordTooLong,
     /// It is digits followed by `()`.
+    #[error("empty period")]
     EmptyPeriod,
     /// This place is the first where it cannot go on as a ray.
+    #[error("syntax at {0}")]
     Syntax(u32),
     /// The digit at this place is no letter.
+    #[error("no letter at {0}")]
     NotALetter(u32),
-    /// There is no memory.
+    /// Memory ran out.
+    #[error("out of memory")]
     NoMemory,
 }
-
-impl fmt::Display for RayText {
-    fn fmt<W: fmt::Write>(&self, f: &mut fmt::Formatter<W>) -> fmt::Result {
-        match self {
-            RayText::WordTooLong => write!(f, "word too long"),
-            RayText::EmptyPeriod => write!(f, "empty period"),
-            RayText::Syntax(place) => write!(f, "syntax at {place}"),
-            RayText::NotALetter(place) => write!(f, "no letter at {place}"),
-            RayText::NoMemory => write!(f, "no memory"),
-        }
-    }
-}
-
-impl Error for RayText {}
 
 impl From<NoMemory> for RayText {
     ghost use Rattle.std.specs.Prelude.{◌≡◌};
@@ -68,24 +58,15 @@ impl From<AllocError> for RayText {
 }
 
 /// Why a ray is not made.
-#[derive(Clone, Copy, Debug, PartialEq, Eq)]
+#[derive(Clone, Copy, Debug, PartialEq, Eq, Error)]
 pub enum RayFault {
     /// Its canonical form has more than 4,096 letters.
+    #[error("ray passes 4096")]
     RayPassed,
-    /// There is no memory.
+    /// Memory ran out.
+    #[error("out of memory")]
     NoMemory,
 }
-
-impl fmt::Display for RayFault {
-    fn fmt<W: fmt::Write>(&self, f: &mut fmt::Formatter<W>) -> fmt::Result {
-        match self {
-            RayFault::RayPassed => write!(f, "ray passes 4096"),
-            RayFault::NoMemory => write!(f, "no memory"),
-        }
-    }
-}
-
-impl Error for RayFault {}
 
 impl From<NoMemory> for RayFault {
     ghost use Rattle.std.specs.Prelude.{◌≡◌};

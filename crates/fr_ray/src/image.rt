@@ -72,9 +72,10 @@ fn run(machine: &Machine, row: u16, word: &[u8], letters: &mut Vec<u8>) -> Resul
     ensures below { IfOk result (λ n. n < length machine.now.rows) }
 {
     let _alphabet = machine.alphabet();
+    letters.reserve(word.len())?;
     let mut at = row;
     for x in word {
-        letters.push(machine.output(at, *x))?;
+        letters.push_reserved(machine.output(at, *x));
         at = machine.next(at, *x);
     }
     Ok(at)

@@ -50,8 +50,9 @@ fn push_digits(letters: &[u8], out: &mut Vec<u8>) -> Result<(), NoMemory>
     ensures ok { OnOk result (out.new.items ≡ out.old.items ++ map letter_digit letters.now) }
     ensures kept { take (length out.old.items) out.new.items ≡ out.old.items }
 {
+    out.reserve(letters.len())?;
     for x in letters {
-        out.push(b'0' + *x)?;
+        out.push_reserved(b'0' + *x);
     }
     Ok(())
 }

@@ -18,7 +18,7 @@ pub(crate) const LETTER_LIMIT: usize = 4096;
 /// of words (Nekrashevych, *Self-Similar Groups*, chapter 1).
 ///
 /// It is kept in its one canonical form, in which `v` and then `u` are as short as can be, with at most 4,096 letters in
-/// both together. The limit is this project's own.
+/// both together.
 #[derive(Debug, Drop)]
 pub struct Ray {
     before: Vec<u8>,

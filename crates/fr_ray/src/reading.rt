@@ -22,8 +22,7 @@ struct Parts<'a> {
 
 impl Ray {
     /// Reads a ray over the alphabet: digits for the letters before the period, of which there may be none, and in
-    /// parentheses the digits of the period, as `12(21)`. Any way to write the ray is taken. The notation is this project's
-    /// own.
+    /// parentheses the digits of the period, as `12(21)`. Any way to write the ray is taken.
     ///
     /// Errors, the first that holds: `WordTooLong` where the text has more than 4,098 bytes; `EmptyPeriod` where it is digits
     /// followed by `()`; `Syntax(place)` where it is not of that form, with the first place where it cannot go on, which is
@@ -111,11 +110,12 @@ fn push_letters(
     ensures err { IfErr result (λ e. (e ≡ RayText.NoMemory) ⊎ ((k : ℕ) × (bad_place a place digits.now ≡ Some k) × (e ≡ RayText.NotALetter k))) }
 {
     let d = a.letters();
+    letters.reserve(digits.len())?;
     for (i, digit) in digits.iter().enumerate() {
         if *digit < b'1' || *digit > b'0' + d {
             return Err(RayText::NotALetter((place + i) as u32));
         }
-        letters.push(*digit - b'0')?;
+        letters.push_reserved(*digit - b'0');
     }
     Ok(())
 }

@@ -86,3 +86,24 @@ returns-clause-chain c =
           rw (ap (λ (v : Vec Link Global). v.items) w.links-is ∙ w.in_ok-push.ensures.items, w.of_letters.ensures, w.of_letters-then-returns-head-ne0.ensures)
           (link_chain c.args.m.now.alphabet c.args.m.now.rows m c.args.moving.now c.requires.moving c.args.numbers.now c.requires.numbers c.args.returns.now c.requires.returns c.requires.few c.args.levels.now.values.items c.args.levels.now.heads.items c.requires.levels c.loop-level.links.items c.loop-level.word.items c.loop-level.at c.loop-level.level w.head_of-head.result w.walk.new.word.items p w.loop-level-test.true h w.in_ok-walk.ensures w.in_ok-back.back.items w.if-returns-head-ne0.true w.in_ok-back.ensures)
     ]
+
+pub walk-requires-clause-tame : goal.walk-requires-clause-tame
+walk-requires-clause-tame c = record {
+  moving = c.args.moving.now;
+  returns = c.args.returns.now;
+  marks = c.requires.moving;
+  counts = c.requires.returns;
+  few = c.requires.few;
+}
+
+pub round_trip-requires-clause-some : goal.round_trip-requires-clause-some
+round_trip-requires-clause-some c = (
+  record {
+    moving = c.args.moving.now;
+    returns = c.args.returns.now;
+    marks = c.requires.moving;
+    counts = c.requires.returns;
+    few = c.requires.few;
+  },
+  c.if-returns-head-ne0.true,
+)
