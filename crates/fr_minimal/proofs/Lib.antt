@@ -1,5 +1,5 @@
 pub mod ChoiceLaws
-pub mod LengthLaws
+pub mod GroupLaws
 pub mod SearchLaws
 pub mod MeetingLaws
 pub mod ReachedLaws

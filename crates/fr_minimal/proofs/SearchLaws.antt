@@ -1,22 +1,26 @@
--- A search that meets pairs of rows in the order of their shortlex least words ends at the least word that tells two rows apart.
-use Rattle.std.proofs.Common.{ℕ, zero, suc, ◌≡◌, ◌*◌, ◌/◌, ◌%◌, ◌<◌, ◌≤◌, ◌⊎◌, inl, inr, List, [], ◌∷◌, ◌++◌, length, drop, get_or, refl, sym, ◌∙◌, ap, subst, arith, length-append, append_assoc}
+-- A search that meets pairs of rows in the order of their words, without those that the earlier ones join, ends at the least
+-- word that tells two rows apart: if a word tells a joined pair apart, it tells apart one of the pairs that join it, whose own
+-- word comes no later.
+use Rattle.std.proofs.Common.{ℕ, ◌≡◌, ◌+◌, ◌-◌, ◌<◌, ◌≤◌, ◌⊎◌, inl, inr, cond, List, [], ◌∷◌, ◌++◌, length, drop, refl, sym, ◌∙◌, ap, subst, arith, ltb, length-append, append_assoc}
 use Rattle.std.proofs.lemmas.List.{append-nil, length_push}
-use Rattle.std.proofs.lemmas.Bool.{cases_lt}
-use Rattle.std.proofs.lemmas.Nat.{div-mul-add, mod-mul-add, mul-add-lt, div_below}
+use Rattle.std.proofs.lemmas.Bool.{cases_lt, cond_below, cond_above}
 use Rattle.fr_model.specs.Words.{IsLetter, IsWord}
 use Rattle.fr_model.specs.Permutations.{image}
 use Rattle.fr_model.specs.Terms.{act, IsAlike}
-use Rattle.fr_model.specs.Automata.{State, next_state, state_after, state_term, IsAutomaton}
+use Rattle.fr_model.specs.Automata.{State, state_at, next_state, state_after, state_term, IsAutomaton}
 use Rattle.fr_model.specs.Separation.{IsLexBefore, IsShortlexBefore, IsSeparatingWord}
 use Rattle.fr_model.proofs.TermLaws.{IsWord-append}
 use Rattle.fr_model.proofs.AlikeLaws.{act-nil, alike_from_words}
-use Rattle.fr_model.proofs.AutomatonLaws.{act-state_term, act-state_letter, section_state, next_state-lt, IsTerm-state_term}
+use Rattle.fr_model.proofs.AutomatonLaws.{act-state_term, act-state_letter, section_state, state_after-lt, IsTerm-state_term}
 use Rattle.fr_model.proofs.CanonicalLaws.{shortlex_trans, shortlex_irrefl}
-use Rattle.fr_machine.specs.Walks.{walk_after}
-use Rattle.fr_machine.proofs.WalkLaws.{walk_after-append}
-use Rattle.fr_machine.specs.Orders.{UpTo, IsOrdered}
-use Rattle.fr_machine.proofs.OrderLaws.{shortlex_push, walk_least}
-use Rattle.fr_minimal.specs.Searches.{both_next, left_output, right_output, IsLeastDifference}
+use Rattle.fr_machine.specs.Orders.{UpTo}
+use Rattle.fr_machine.proofs.OrderLaws.{shortlex_push}
+use Rattle.fr_minimal.specs.declared.met.Met.{Met}
+use Rattle.fr_minimal.specs.Searches.{met_at, word_at, IsLeastDifference, IsSearched}
+
+pub state_after-push : (qs : List State) (s : ℕ) (w : List ℕ) (x : ℕ) → state_after qs s (w ++ x ∷ []) ≡ next_state qs (state_after qs s w) x
+state_after-push qs s [] x = refl
+state_after-push qs s (y ∷ w) x = state_after-push qs (next_state qs s y) w x
 
 -- ---- shortlex order
 lex_pop : (u w : List ℕ) (y x : ℕ) → length u ≡ length w → IsLexBefore (u ++ y ∷ []) (w ++ x ∷ []) → IsLexBefore u w ⊎ ((u ≡ w) × (y < x))
@@ -43,161 +47,136 @@ shortlex_prefix u [] w h = let P : List ℕ → Type 0 = λ t. IsShortlexBefore 
 shortlex_prefix u (y ∷ v) w (inl l) = inl (omega (arith, length-append u (y ∷ v)))
 shortlex_prefix u (y ∷ v) w (inr h) = inl (omega (arith, length-append u (y ∷ v), h.0))
 
-upto_before : (u v w : List ℕ) → UpTo u v → IsShortlexBefore v w → IsShortlexBefore u w
-upto_before u v w (inl e) h = let P : List ℕ → Type 0 = λ t. IsShortlexBefore t w in subst P (sym e) h
-upto_before u v w (inr b) h = shortlex_trans u v w b h
+-- one word behind two others
+shortlex_append : (u v z : List ℕ) → IsShortlexBefore u v → IsShortlexBefore (u ++ z) (v ++ z)
+shortlex_append u v [] h = rw (append-nil u, append-nil v) h
+shortlex_append u v (x ∷ z) h =
+    let r = shortlex_append (u ++ x ∷ []) (v ++ x ∷ []) z (shortlex_push u v x x h) in
+    rw (append_assoc u (x ∷ []) z, append_assoc v (x ∷ []) z) at r
 
-upto_push : (p u v : List ℕ) (y : ℕ) → UpTo p (u ++ y ∷ []) → UpTo u v → UpTo p (v ++ y ∷ [])
-upto_push p u v y h (inl e) = let P : List ℕ → Type 0 = λ t. UpTo p (t ++ y ∷ []) in subst P e h
-upto_push p u v y h (inr b) = inr (upto_before p (u ++ y ∷ []) (v ++ y ∷ []) h (shortlex_push u v y y b))
+upto_append : (u v z w : List ℕ) → UpTo u v → IsShortlexBefore (v ++ z) w → IsShortlexBefore (u ++ z) w
+upto_append u v z w (inl e) h = let P : List ℕ → Type 0 = λ t. IsShortlexBefore (t ++ z) w in subst P (sym e) h
+upto_append u v z w (inr b) h = shortlex_trans (u ++ z) (v ++ z) w (shortlex_append u v z b) h
 
--- a word before that of key j leads to a key before key j
-before_is_met : (d : ℕ) (step : ℕ → ℕ → ℕ) (start : ℕ) (keys : List ℕ) (words : List (List ℕ)) (j : ℕ) → IsOrdered d step start keys words j 1 → j < length keys
-    → (i : ℕ) (u v : List ℕ) → i < j → UpTo (get_or words i []) u → walk_after step start u ≡ get_or keys i 0 → IsWord d v → IsShortlexBefore (u ++ v) (get_or words j []) → (k : ℕ) × (k < j) × (get_or keys k 0 ≡ walk_after step start (u ++ v))
-before_is_met d step start keys words j h jl i u [] l up e w b = (i, l, sym e ∙ ap (walk_after step start) (sym (append-nil u)))
-before_is_met d step start keys words j h jl i u (y ∷ v) l up e w b =
-    let a = append_assoc u (y ∷ []) v in
-    let il : i < length keys = omega arith in
-    let c = h.met i y il w.0 (inl l) in
-    let up' = upto_push (get_or words c.0 []) (get_or words i []) u y (h.passed i y c.0 il w.0 (inl l) c.1 c.2) up in
-    let last : walk_after step start (u ++ y ∷ []) ≡ step (walk_after step start u) y = walk_after-append step start u (y ∷ []) in
-    let here : step (walk_after step start u) y ≡ step (get_or keys i 0) y = ap (λ k. step k y) e in
-    let e' : walk_after step start (u ++ y ∷ []) ≡ get_or keys c.0 0 = last ∙ here ∙ sym c.2 in
-    let P : List ℕ → Type 0 = λ t. IsShortlexBefore t (get_or words j []) in
-    let b' = subst P (sym a) b in
-    let front = upto_before (get_or words c.0 []) (u ++ y ∷ []) (get_or words j []) up' (shortlex_prefix (u ++ y ∷ []) v (get_or words j []) b') in
-    let earlier : c.0 < j = elim (cases_lt c.0 j) [
-      | inl t ↦ t
-      | inr t ↦ elim (cases_lt j c.0) [
-        | inl q ↦ absurd (shortlex_irrefl (get_or words j []) (shortlex_trans (get_or words j []) (get_or words c.0 []) (get_or words j []) (h.ascending j c.0 q c.1) front))
-        | inr q ↦ let same : c.0 ≡ j = omega arith in absurd (let Q : ℕ → Type 0 = λ k. IsShortlexBefore (get_or words k []) (get_or words j []) in shortlex_irrefl (get_or words j []) (subst Q same front))
-      ]
-    ] in
-    let r = before_is_met d step start keys words j h jl c.0 (u ++ y ∷ []) v earlier up' e' w.1 b' in
-    (r.0, r.1, r.2 ∙ ap (walk_after step start) a)
+-- ---- images under the rows of two machines
+module _ (d : ℕ) (ps qs : List State) (g : IsAutomaton d ps) (h : IsAutomaton d qs) where
+  -- the image of a word under each row of both, those of the right one behind those of the left one
+  abbrev image_at : List ℕ → ℕ → List ℕ
+  image_at z k = cond (ltb k (length ps)) (act (state_term ps k) z) (act (state_term qs (k - length ps)) z)
 
--- ---- pairs of rows
-pair_lt : (k m n : ℕ) → k < m * n → (k / n < m) × (k % n < n)
-pair_lt k m n l = let some = some_width n k m l in (div_below k n m some l, omega arith)
-  where
-    some_width : (n k m : ℕ) → k < m * n → 0 < n
-    some_width zero k m l = absurd (let z : m * 0 ≡ 0 = omega arith in omega (arith, z))
-    some_width (suc n) k m l = omega arith
+  image_left : (z : List ℕ) (k : ℕ) → k < length ps → image_at z k ≡ act (state_term ps k) z
+  image_left z k l = sym (cond_below k (length ps) (act (state_term ps k) z) (act (state_term qs (k - length ps)) z) l)
 
-module _ (d : ℕ) (ps qs : List State) (width : ℕ) (wide : width ≡ length qs) (g : IsAutomaton d ps) (h : IsAutomaton d qs) where
-  abbrev step : ℕ → ℕ → ℕ
-  step = both_next ps qs width
+  image_right : (z : List ℕ) (k : ℕ) → image_at z (length ps + k) ≡ act (state_term qs k) z
+  image_right z k =
+      let back : length ps + k - length ps ≡ k = omega arith in
+      sym (cond_above (length ps + k) (length ps) (act (state_term ps (length ps + k)) z) (act (state_term qs (length ps + k - length ps)) z) (act (state_term qs k) z) (omega arith) (ap (λ i. act (state_term qs i) z) (sym back)))
 
-  abbrev bound : ℕ
-  bound = length ps * width
+  module _ (s t : ℕ) (ls : s < length ps) (lt : t < length qs) (met : List Met) (j : ℕ) (o : IsSearched d ps qs s t met j 1) where
+    abbrev left_row : ℕ → ℕ
+    left_row i = (met_at met i).left
 
-  in_range : (k : ℕ) → k < bound → (k / width < length ps) × (k % width < length qs)
-  in_range k l = let p = pair_lt k (length ps) width l in (p.0, omega (arith, p.1))
+    abbrev right_row : ℕ → ℕ
+    right_row i = (met_at met i).right
 
-  -- a letter leads each of two rows on
-  both_is : (k x : ℕ) → k < bound → (step k x < bound) × (step k x / width ≡ next_state ps (k / width) x) × (step k x % width ≡ next_state qs (k % width) x)
-  both_is k x l =
-      let p = in_range k l in
-      let i = next_state ps (k / width) x in
-      let j = next_state qs (k % width) x in
-      let il = next_state-lt d ps (k / width) x g p.0 in
-      let jl : j < width = omega (arith, next_state-lt d qs (k % width) x h p.1) in
-      (grind (arith, mul-add-lt i width j (length ps) il jl), div-mul-add i width j jl, mod-mul-add i width j jl)
+    left_in : (i : ℕ) → i < length met → left_row i < length ps
+    left_in i l = omega (arith, state_after-lt d ps s (word_at o.words i) g ls, o.left i l)
 
-  -- and a whole word
-  walk_is : (k : ℕ) (w : List ℕ) → k < bound → (walk_after step k w < bound) × (walk_after step k w / width ≡ state_after ps (k / width) w) × (walk_after step k w % width ≡ state_after qs (k % width) w)
-  walk_is k [] l = (l, refl, refl)
-  walk_is k (x ∷ w) l =
-      let o = both_is k x l in
-      let r = walk_is (step k x) w o.0 in
-      (r.0, r.1 ∙ ap (λ i. state_after ps i w) o.1, r.2 ∙ ap (λ j. state_after qs j w) o.2)
+    right_in : (i : ℕ) → i < length met → right_row i < length qs
+    right_in i l = omega (arith, state_after-lt d qs t (word_at o.words i) h lt, o.right i l)
 
-  module _ (start : ℕ) (sl : start < bound) where
-    abbrev at : List ℕ → ℕ
-    at u = walk_after step start u
-
-    -- rows act alike on a word where the pairs that its beginnings lead to put out the same letters
-    same_act : (Holds : List ℕ → Type 0) → ((u v : List ℕ) → Holds (u ++ v) → Holds u)
-        → ((u : List ℕ) (y : ℕ) → IsWord d u → IsLetter d y → Holds (u ++ y ∷ []) → image (left_output ps width (at u)) y ≡ image (right_output qs width (at u)) y)
-        → (u v : List ℕ) → IsWord d u → IsWord d v → Holds (u ++ v) → act (state_term ps (at u / width)) v ≡ act (state_term qs (at u % width)) v
-    same_act Holds prefix agree u [] a b f = act-nil (state_term ps (at u / width)) ∙ sym (act-nil (state_term qs (at u % width)))
-    same_act Holds prefix agree u (y ∷ v) a b f =
-        let k = at u in
-        let kl = (walk_is start u sl).0 in
-        let p = in_range k kl in
-        let o = both_is k y kl in
-        let later : at (u ++ y ∷ []) ≡ step k y = walk_after-append step start u (y ∷ []) in
-        let f' = subst Holds (sym (append_assoc u (y ∷ []) v)) f in
-        let rest = same_act Holds prefix agree (u ++ y ∷ []) v (IsWord-append d u (y ∷ []) a (b.0, tt)) b.1 f' in
-        let i : at (u ++ y ∷ []) / width ≡ next_state ps (k / width) y = ap (λ q. q / width) later ∙ o.1 in
-        let j : at (u ++ y ∷ []) % width ≡ next_state qs (k % width) y = ap (λ q. q % width) later ∙ o.2 in
-        act-state_term d ps (k / width) y v g p.0 b.0
-        ∙ ap (λ x. x ∷ act (state_term ps (next_state ps (k / width) y)) v) (agree u y a b.0 (prefix (u ++ y ∷ []) v f'))
-        ∙ ap (λ w. image (right_output qs width k) y ∷ w) (ap (λ q. act (state_term ps q) v) (sym i) ∙ rest ∙ ap (λ q. act (state_term qs q) v) j)
-        ∙ sym (act-state_term d qs (k % width) y v h p.1 b.0)
+    -- the pairs that were met act alike on the words behind their own as far as their rows put out the same letters
+    same_images : (Holds : List ℕ → Type 0) → ((u v z : List ℕ) → UpTo u v → Holds (v ++ z) → Holds (u ++ z))
+        → ((i y : ℕ) (z : List ℕ) → i < length met → IsLetter d y → Holds (word_at o.words i ++ y ∷ z) → (image (state_at ps (left_row i)).perm y ≡ image (state_at qs (right_row i)).perm y) × ((i < j) ⊎ (z ≡ [])))
+        → (z : List ℕ) (i : ℕ) → i < length met → IsWord d z → Holds (word_at o.words i ++ z) → act (state_term ps (left_row i)) z ≡ act (state_term qs (right_row i)) z
+    same_images Holds closed agree [] i l a f = act-nil (state_term ps (left_row i)) ∙ sym (act-nil (state_term qs (right_row i)))
+    same_images Holds closed agree (y ∷ z) i l a f =
+        let r = agree i y z l a.0 f in
+        let p = next_state ps (left_row i) y in
+        let q = next_state qs (right_row i) y in
+        let tails : act (state_term ps p) z ≡ act (state_term qs q) z = elim r.1 [
+          | inl b ↦
+              let same = o.joined i y l a.0 (inl b) (image_at z) (λ k kl up.
+              image_left z (left_row k) (left_in k kl)
+              ∙ same_images Holds closed agree z k kl a.1 (closed (word_at o.words k) (word_at o.words i ++ y ∷ []) z up (rw (append_assoc (word_at o.words i) (y ∷ []) z) f))
+              ∙ sym (image_right z (right_row k))) in
+              let first : p < length ps = next_lt i y l a.0 in
+              sym (image_left z p first) ∙ same ∙ image_right z q
+          | inr e ↦ let P : List ℕ → Type 0 = λ v. act (state_term ps p) v ≡ act (state_term qs q) v in subst P (sym e) (act-nil (state_term ps p) ∙ sym (act-nil (state_term qs q)))
+        ] in
+        act-state_term d ps (left_row i) y z g (left_in i l) a.0
+        ∙ ap (λ c. c ∷ act (state_term ps p) z) r.0
+        ∙ ap (λ v. image (state_at qs (right_row i)).perm y ∷ v) tails
+        ∙ sym (act-state_term d qs (right_row i) y z h (right_in i l) a.0)
+      where
+        next_lt : (i y : ℕ) → i < length met → IsLetter d y → next_state ps (left_row i) y < length ps
+        next_lt i y l a = state_after-lt d ps (left_row i) (y ∷ []) g (left_in i l)
 
     -- the pairs that were met first put out the same letters
-    abbrev Agreed : List ℕ → ℕ → Type 0
-    Agreed keys j = (k : ℕ) → k < j → (y : ℕ) → IsLetter d y → image (left_output ps width (get_or keys k 0)) y ≡ image (right_output qs width (get_or keys k 0)) y
+    abbrev Agreed : Type 0
+    Agreed = (k : ℕ) → k < j → (y : ℕ) → IsLetter d y → image (state_at ps (left_row k)).perm y ≡ image (state_at qs (right_row k)).perm y
 
-    abbrev left : ℕ
-    left = start / width
+    first_left : left_row 0 ≡ s
+    first_left = sym (o.left 0 o.some) ∙ ap (state_after ps s) o.spelled.none
 
-    abbrev right : ℕ
-    right = start % width
+    first_right : right_row 0 ≡ t
+    first_right = sym (o.right 0 o.some) ∙ ap (state_after qs t) o.spelled.none
 
-    -- all pairs that are reached agree
-    pub alike_searched : (keys : List ℕ) (words : List (List ℕ)) (j : ℕ) → IsOrdered d step start keys words j 1 → length keys ≤ j → Agreed keys j → IsAlike (state_term ps left) (state_term qs right)
-    alike_searched keys words j o all agreed =
-        let p = in_range start sl in
-        let first : start ≡ get_or keys 0 0 = ap (walk_after step start) (sym o.none) ∙ o.own 0 o.some in
-        alike_from_words d (IsTerm-state_term d ps left g p.0) (IsTerm-state_term d qs right h p.1)
-        (λ w a. same_act (λ u. Unit {0}) (λ u v f. f)
-        (λ u y b l f.
-        let r = walk_least d step start keys words j 1 o all (sym first) 0 [] u o.some (inl o.none) first b in
-        ap (λ k. image (left_output ps width k) y) (sym r.2) ∙ agreed r.0 (omega (arith, r.1)) y l ∙ ap (λ k. image (right_output qs width k) y) r.2)
-        [] w tt a tt)
+    -- all pairs that were met agree
+    pub alike_searched : length met ≤ j → Agreed → IsAlike (state_term ps s) (state_term qs t)
+    alike_searched all agreed =
+        alike_from_words d (IsTerm-state_term d ps s g ls) (IsTerm-state_term d qs t h lt)
+        (λ w a. rw (← first_left, ← first_right) (same_images (λ v. Unit {0}) (λ u v z up f. f) (λ i y z l b f. (agreed i (omega arith) y b, inl (omega arith))) w 0 o.some a tt))
 
     -- the pair at place j is the first that does not
-    pub separating_searched : (keys : List ℕ) (words : List (List ℕ)) (j x : ℕ) → IsOrdered d step start keys words j 1 → j < length keys → Agreed keys j
-        → IsLeastDifference d (left_output ps width (get_or keys j 0)) (right_output qs width (get_or keys j 0)) x → IsSeparatingWord d (state_term ps left) (state_term qs right) (get_or words j [] ++ x ∷ [])
-    separating_searched keys words j x o jl agreed e =
-        let p = in_range start sl in
-        let w = get_or words j [] in
-        let first : start ≡ get_or keys 0 0 = ap (walk_after step start) (sym o.none) ∙ o.own 0 o.some in
+    pub separating_searched : (x : ℕ) → j < length met → Agreed → IsLeastDifference d (state_at ps (left_row j)).perm (state_at qs (right_row j)).perm x → IsSeparatingWord d (state_term ps s) (state_term qs t) (word_at o.words j ++ x ∷ [])
+    separating_searched x jl agreed e =
+        let w = word_at o.words j in
         let word = o.valid j jl in
-        let r = walk_is start w sl in
-        let q = in_range (at w) r.0 in
-        let own : at w ≡ get_or keys j 0 = o.own j jl in
-        let Holds : List ℕ → Type 0 = λ v. IsShortlexBefore v (w ++ x ∷ []) in
         record {
           valid = IsWord-append d w (x ∷ []) word (e.letter, tt);
           differs = λ same.
-              let a = (section_state d ps left w g p.0 word).images (x ∷ []) ∙ ap (λ i. act (state_term ps i) (x ∷ [])) (sym r.1) ∙ act-state_letter d ps (at w / width) x g q.0 e.letter in
-              let b = (section_state d qs right w h p.1 word).images (x ∷ []) ∙ ap (λ i. act (state_term qs i) (x ∷ [])) (sym r.2) ∙ act-state_letter d qs (at w % width) x h q.1 e.letter in
+              let a = (section_state d ps s w g ls word).images (x ∷ []) ∙ ap (λ i. act (state_term ps i) (x ∷ [])) (o.left j jl) ∙ act-state_letter d ps (left_row j) x g (left_in j jl) e.letter in
+              let b = (section_state d qs t w h lt word).images (x ∷ []) ∙ ap (λ i. act (state_term qs i) (x ∷ [])) (o.right j jl) ∙ act-state_letter d qs (right_row j) x h (right_in j jl) e.letter in
               let heads = sym a ∙ ap (drop (length w)) same ∙ b in
-              let last : image (left_output ps width (at w)) x ≡ image (right_output qs width (at w)) x = cc in
-              e.differs (ap (λ k. image (left_output ps width k) x) (sym own) ∙ last ∙ ap (λ k. image (right_output qs width k) x) own);
+              let last : image (state_at ps (left_row j)).perm x ≡ image (state_at qs (right_row j)).perm x = cc in
+              e.differs last;
           least = λ v a b.
-              same_act Holds (λ u z f. shortlex_prefix u z (w ++ x ∷ []) f)
-              (λ u y c l f. elim (shortlex_pop u w y x f) [
-                | inl s ↦
-                    let positive : 0 < j = elim (cases_lt 0 j) [
-                      | inl i ↦ i
-                      | inr i ↦
-                          let zero_j : j ≡ 0 = omega arith in
-                          let empty : w ≡ [] = ap (λ i. get_or words i []) zero_j ∙ o.none in
-                          absurd (nothing_before u (let P : List ℕ → Type 0 = λ t. IsShortlexBefore u t in subst P empty s))
-                    ] in
-                    let m = before_is_met d step start keys words j o jl 0 [] u positive (inl o.none) first c s in
-                    ap (λ k. image (left_output ps width k) y) (sym m.2) ∙ agreed m.0 m.1 y l ∙ ap (λ k. image (right_output qs width k) y) m.2
-                | inr s ↦
-                    let k : at u ≡ get_or keys j 0 = ap (walk_after step start) s.0 ∙ own in
-                    ap (λ k. image (left_output ps width k) y) k ∙ e.least y l s.1 ∙ ap (λ k. image (right_output qs width k) y) (sym k)
-              ]) [] v tt a b;
+              rw (← first_left, ← first_right) (same_images (λ u. IsShortlexBefore u (w ++ x ∷ [])) (λ u c z up f. upto_append u c z (w ++ x ∷ []) up f) agree v 0 o.some a
+              (let P : List ℕ → Type 0 = λ u. IsShortlexBefore (u ++ v) (w ++ x ∷ []) in subst P (sym o.spelled.none) b));
         }
       where
-        nothing_before : (u : List ℕ) → IsShortlexBefore u [] → ⊥
-        nothing_before u (inl l) = omega arith
-        nothing_before [] (inr s) = s.1
-        nothing_before (y ∷ u) (inr s) = s.1
+        earlier : (i : ℕ) → i < length met → IsShortlexBefore (word_at o.words i) (word_at o.words j) → i < j
+        earlier i l b = elim (cases_lt i j) [
+          | inl m ↦ m
+          | inr m ↦ elim (cases_lt j i) [
+            | inl n ↦ absurd (shortlex_irrefl (word_at o.words j) (shortlex_trans (word_at o.words j) (word_at o.words i) (word_at o.words j) (o.ascending j i n l) b))
+            | inr n ↦ let same : i ≡ j = omega arith in let Q : ℕ → Type 0 = λ k. IsShortlexBefore (word_at o.words k) (word_at o.words j) in absurd (shortlex_irrefl (word_at o.words j) (subst Q same b))
+          ]
+        ]
+
+        here : (i : ℕ) → i < length met → word_at o.words i ≡ word_at o.words j → i ≡ j
+        here i l b = elim (cases_lt i j) [
+          | inl m ↦ absurd (let Q : List ℕ → Type 0 = λ u. IsShortlexBefore u (word_at o.words j) in shortlex_irrefl (word_at o.words j) (subst Q b (o.ascending i j m jl)))
+          | inr m ↦ elim (cases_lt j i) [
+            | inl n ↦ absurd (let Q : List ℕ → Type 0 = λ u. IsShortlexBefore (word_at o.words j) u in shortlex_irrefl (word_at o.words j) (subst Q b (o.ascending j i n l)))
+            | inr n ↦ omega arith
+          ]
+        ]
+
+        short_rest : (w z : List ℕ) (y : ℕ) → IsShortlexBefore (w ++ y ∷ z) (w ++ x ∷ []) → z ≡ []
+        short_rest w [] y b = refl
+        short_rest w (c ∷ z) y (inl b) = absurd (omega (arith, length-append w (y ∷ c ∷ z), length_push w x))
+        short_rest w (c ∷ z) y (inr b) = absurd (omega (arith, b.0, length-append w (y ∷ c ∷ z), length_push w x))
+
+        agree : (i y : ℕ) (z : List ℕ) → i < length met → IsLetter d y → IsShortlexBefore (word_at o.words i ++ y ∷ z) (word_at o.words j ++ x ∷ []) → (image (state_at ps (left_row i)).perm y ≡ image (state_at qs (right_row i)).perm y) × ((i < j) ⊎ (z ≡ []))
+        agree i y z l a b =
+            let front = shortlex_prefix (word_at o.words i ++ y ∷ []) z (word_at o.words j ++ x ∷ []) (rw (append_assoc (word_at o.words i) (y ∷ []) z) b) in
+            elim (shortlex_pop (word_at o.words i) (word_at o.words j) y x front) [
+              | inl m ↦ let k = earlier i l m in (agreed i k y a, inl k)
+              | inr m ↦
+                  let same = here i l m.0 in
+                  let P : ℕ → Type 0 = λ k. image (state_at ps (left_row k)).perm y ≡ image (state_at qs (right_row k)).perm y in
+                  let Q : List ℕ → Type 0 = λ u. IsShortlexBefore (u ++ y ∷ z) (word_at o.words j ++ x ∷ []) in
+                  (subst P (sym same) (e.least y a m.1), inr (short_rest (word_at o.words j) z y (subst Q m.0 b)))
+            ]

@@ -4,6 +4,8 @@
 //! (Grigorchuk, Nekrashevych and Sushchanskii, Automata, dynamical systems, and groups).
 #![tactic(auto)]
 
+mod groups;
+mod met;
 mod reached;
 mod search;
 mod separation;

@@ -1,64 +1,78 @@
-//! The pairs of rows that words lead to, each entered once, in the order of the shortlex least words that lead there.
+//! The pairs of rows that words lead to, in the order of the words, without those that the earlier ones make alike.
 
-ghost use Rattle.std.specs.Prelude.{◌≡◌, ◌<◌, ◌≤◌, ◌++◌, ℕ, [], ◌∷◌, List, IfOk, OnOk, length, replicate, false, slice_index_or};
-ghost use Rattle.fr_minimal.specs.Searches.{IsMarked, IsMeeting, IsLinked, AreWords, met_at};
+ghost use Rattle.std.specs.Prelude.{◌≡◌, ◌<◌, ◌≤◌, ◌+◌, ◌++◌, ℕ, [], ◌∷◌, List, IfOk, length, slice_index_or, vec_capacity};
+ghost use Rattle.fr_minimal.specs.Groups.{IsShared, joins};
+ghost use Rattle.fr_minimal.specs.Searches.{AgreeOnMet, AreInside, AreWords, IsLinked, IsMeeting, met_at};
 
+use crate::groups::Groups;
+use crate::met::Met;
 use fr_alphabet::NoMemory;
 use std::alloc::Global;
 
-/// A pair of rows that was met: its number, the place of the pair before it, and the letter that leads from there.
-#[derive(Clone, Copy)]
-pub struct Met {
-    pub pair: u32,
-    pub before: u32,
-    pub letter: u8,
-}
-
-/// The pairs that were met, in order, and a mark for each of them in a table of all pairs.
+/// The pairs that were met, in order, and groups of the rows of both machines, those of the right one behind those of the
+/// left one. A pair is met only where its rows lie in two groups, which it makes one (Hopcroft and Karp, A linear algorithm
+/// for testing the equivalence of finite automata). So there are fewer pairs than rows of both machines.
 #[derive(Drop)]
 pub struct Search {
-    pub marks: Vec<bool>,
+    pub left_rows: u16,
+    pub groups: Groups,
     pub met: Vec<Met>,
+    ghost inside: { AreInside left_rows (length groups.parents.items) met.items },
+    ghost shared: { (image : ℕ → List ℕ) → AgreeOnMet left_rows met.items image → IsShared groups.parents.items image },
+    ghost counted: { length met.items ≡ joins groups.parents.items },
+    ghost room: { length groups.parents.items ≤ vec_capacity met },
 }
 
 impl Search {
-    /// The search that has met this pair alone, of so many in all. The only error is want of memory.
-    pub fn new(alloc: Global, bound: usize, pair: u32) -> Result<Search, NoMemory>
-        requires { pair < bound }
-        ensures bound { IfOk result (λ s. length s.marks.items ≡ bound) }
-        ensures met { IfOk result (λ s. s.met.items ≡ record { pair = pair; before = 0; letter = 0 } ∷ []) }
-        ensures marked { IfOk result (λ s. IsMarked s.marks.items s.met.items) }
+    /// The search that has met this pair alone, among so many rows on the left and on the right. The only error is want of
+    /// memory.
+    pub fn new(
+        alloc: Global,
+        left_rows: u16,
+        right_rows: u16,
+        first: Met,
+    ) -> Result<Search, NoMemory>
+        requires few { left_rows + right_rows ≤ 65535 }
+        requires left { first.left < left_rows }
+        requires right { first.right < right_rows }
+        ensures left_rows { IfOk result (λ s. s.left_rows ≡ left_rows) }
+        ensures rows { IfOk result (λ s. length s.groups.parents.items ≡ left_rows + right_rows) }
+        ensures met { IfOk result (λ s. s.met.items ≡ first ∷ []) }
     {
+        let rows = left_rows + right_rows;
         let mut search = Search {
-            marks: vec![in alloc; false; bound]?,
-            met: Vec::new(alloc),
+            left_rows,
+            groups: Groups::new(alloc, rows)?,
+            met: Vec::with_capacity(alloc, rows as usize)?,
         };
-        search.meet(Met {
-            pair,
-            before: 0,
-            letter: 0,
-        })?;
+        search.meet(first);
         Ok(search)
     }
 
-    /// Enters a pair at the end, unless it was met before. The only error is want of memory.
-    pub fn meet(&mut self, met: Met) -> Result<(), NoMemory>
-        requires pair { met.pair < length self.old.marks.items }
-        requires marked { IsMarked self.old.marks.items self.old.met.items }
-        ensures bound { OnOk result (length self.new.marks.items ≡ length self.old.marks.items) }
-        ensures marked { OnOk result (IsMarked self.new.marks.items self.new.met.items) }
-        ensures met { OnOk result (IsMeeting self.old.met.items self.new.met.items met) }
+    /// Enters a pair at the end, unless its rows lie in one group.
+    pub fn meet(&mut self, met: Met)
+        requires left { met.left < self.old.left_rows }
+        requires right { self.old.left_rows + met.right < length self.old.groups.parents.items }
+        ensures left_rows { self.new.left_rows ≡ self.old.left_rows }
+        ensures rows { length self.new.groups.parents.items ≡ length self.old.groups.parents.items }
+        ensures met { IsMeeting self.old.left_rows self.old.met.items self.new.met.items met }
     {
-        let pair = met.pair as usize;
-        if !self.marks[pair] {
-            self.met.push(met)?;
-            self.marks[pair] = true;
+        if self.groups.join(met.left, self.left_rows + met.right) {
+            self.met.push_reserved(met);
         }
-        Ok(())
+    }
+
+    /// How many pairs were met: fewer than the rows of both machines together.
+    pub fn count(&self) -> u16
+        requires { 0 < length self.now.groups.parents.items }
+        ensures value { result ≡ length self.now.met.items }
+        ensures fewer { result < length self.now.groups.parents.items }
+    {
+        self.met.len() as u16
     }
 
     /// The letters that lead to the pair at a place, and `last` behind them. The only error is want of memory.
-    pub fn word_to(&self, alloc: Global, place: u32, last: u8) -> Result<Vec<u8>, NoMemory>
+    pub fn word_to(&self, alloc: Global, place: u16, last: u8) -> Result<Vec<u8>, NoMemory>
         requires place { place < length self.now.met.items }
         requires linked { IsLinked self.now.met.items }
         ensures { IfOk result (λ w. (words : List (List ℕ)) → AreWords self.now.met.items words → w.items ≡ slice_index_or words place [] ++ last ∷ []) }
