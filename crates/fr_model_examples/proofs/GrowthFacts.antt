@@ -49,7 +49,13 @@ not_one_active : ¬ IsActivity 2 1 (Name second_swap 0) 1
 not_one_active s = omega (arith, activity_once 2 1 (Name second_swap 0) 2 1 two_active s)
 
 pub second_swap_active : SecondSwapIsActive
-second_swap_active = record { two = two_active; not_one = not_one_active }
+second_swap_active = record {
+  two = two_active;
+  not_one = not_one_active;
+  at_one = record { valid = one; long = refl; moved = moved 1 (omega arith, omega arith) };
+  not_at_longer = λ r. omega (arith, r.long);
+  not_the_first = λ r. r.moved (a_any (1 ∷ []) (omega arith));
+}
 
 -- ---- finitary
 pub swap_finitary : SwapIsFinitary
@@ -151,6 +157,7 @@ lamplighter_exponential = record {
   least = record { triple = triple; least_at = λ at u v b e. nothing_before at b; least_length = shorter; ordered = inr (refl, inl (omega arith)); first_two = first_two };
   not_turned = λ t. elim t.ordered [ inl a ↦ omega (arith, a) | inr a ↦ elim a.1 [ inl b ↦ omega (arith, b) | inr b ↦ omega (arith, b.0) ] ];
   not_longer = λ t. t.least_length (1 ∷ 2 ∷ []) (2 ∷ 2 ∷ []) (omega arith) triple;
+  not_shorter = shorter (1 ∷ []) (2 ∷ []) (omega arith);
   turned_is_some = turned;
   longer_is_some = record { at_valid = tt; u_valid = ((omega arith, omega arith), one_two); v_valid = ((omega arith, omega arith), two_two); moved = p_moves; differ = λ e. let f : ◌≡◌ {A = List ℕ} (1 ∷ 1 ∷ 2 ∷ []) (2 ∷ 2 ∷ 2 ∷ []) = e in cc; one_length = refl; u_back = record { images = λ w. refl }; v_back = record { images = λ w. refl } };
 }

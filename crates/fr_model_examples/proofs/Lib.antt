@@ -13,3 +13,4 @@ mod ConstructionFacts
 mod GrowthFacts
 mod NucleusFacts
 mod RayFacts
+mod LinearFacts

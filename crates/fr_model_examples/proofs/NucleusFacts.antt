@@ -10,8 +10,9 @@ use Rattle.fr_model.specs.Nuclei.IsGeneratorSection.{one, section, inverse}
 use Rattle.fr_model.specs.Nuclei.IsNucleusMember.{of_generator, of_product}
 use Rattle.fr_model.specs.Nuclei.IsGroupElement.{none, more}
 use Rattle.fr_model.proofs.GrowthLaws.{section_one}
+use Rattle.fr_model.proofs.LimitLaws.{nucleus_depth_once}
 use Rattle.fr_model_examples.specs.Groups.{grigorchuk}
-use Rattle.fr_model_examples.specs.NucleusInstances.{SwapSections, LimitSections, SwapHasTrivialNucleus}
+use Rattle.fr_model_examples.specs.NucleusInstances.{SwapSections, LimitSections, SwapHasTrivialNucleus, ElementsAreProducts}
 use Rattle.fr_model_examples.proofs.Letters.{twos, twos_word, length-twos}
 use Rattle.fr_model_examples.proofs.Swap.{a_any, a_inverse_any, a_moves}
 
@@ -115,4 +116,11 @@ trivial_nucleus = record {
   not_nucleus = λ s. let r = s.smallest (One ∷ []) absorbs (Name grigorchuk 0) (1, omega arith, refl) in a_moves (rw (← is_one r.0 r.1) at r.2);
   depth = depth;
   not_depth = λ s. a_moves (alike_trans (alike_sym (alike_trans (section_nil (Product One (Section (Name grigorchuk 0) []))) (alike_trans same (section_nil (Name grigorchuk 0))))) (n_one (s.within One (Section (Name grigorchuk 0) []) (one_member One (alike_refl One)) (section (here []) [] tt) [] tt refl)));
+  not_two = λ s. omega (arith, nucleus_depth_once 2 SwapSections 1 2 depth s);
+}
+
+pub elements_are_products : ElementsAreProducts
+elements_are_products = record {
+  product = more none (section (here []) [] tt);
+  not_name = λ h. elim h [ ];
 }

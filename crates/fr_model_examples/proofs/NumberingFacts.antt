@@ -11,8 +11,8 @@ use Rattle.fr_model.proofs.AutomatonLaws.{section_state, state_after-lt}
 use Rattle.fr_model.proofs.CanonicalLaws.{canonical_same}
 use Rattle.fr_model.proofs.CodeLaws.{code-same}
 use Rattle.fr_model_examples.specs.Automata.{adding_states, adding_states_turned, adding_states_and_spare}
-use Rattle.fr_model_examples.specs.NumberingInstances.{AddingMachineIsNumbered, CodesAreWritten}
-use Rattle.fr_model_examples.proofs.Letters.{one, letter_cases, two_cases, nothing_before, IsAutomaton-adding}
+use Rattle.fr_model_examples.specs.NumberingInstances.{LeastWordsOfAddingMachine, AddingMachineIsNumbered, CodesAreWritten}
+use Rattle.fr_model_examples.proofs.Letters.{one, two, letter_cases, two_cases, nothing_before, IsAutomaton-adding}
 use Rattle.fr_model_examples.proofs.SizeFacts.{words, t_apart}
 
 at_word : (v : List ℕ) → IsWord 2 v → IsAlike (Section (state_term adding_states 0) v) (state_term adding_states (state_after adding_states 0 v))
@@ -120,3 +120,11 @@ codes = record {
     no_code : (t : Term) (qs : List State) → IsCanonical 2 t qs → ◌≡◌ {A = List ℕ} [] (code_of qs) → ⊥
     no_code t [] c e = not_none t c
     no_code t (q ∷ qs) c e = cc
+
+pub least_of_adding_machine : LeastWordsOfAddingMachine
+unfolding words
+least_of_adding_machine = record {
+  nothing = least_words 0 (omega arith);
+  one = least_words 1 (omega arith);
+  not_two = λ l. l.least [] tt (inl (omega arith)) (alike_trans (at_word [] tt) (alike_sym (at_word (2 ∷ []) two)));
+}

@@ -3,7 +3,7 @@ use Rattle.std.proofs.Common.{ℕ, zero, suc, ◌≡◌, ◌≢◌, ◌≤◌, L
 use Rattle.fr_model.specs.Terms.{Name, act}
 use Rattle.fr_model.specs.Rays.{repeated}
 use Rattle.fr_model_examples.specs.Groups.{adding_machine}
-use Rattle.fr_model_examples.specs.RayInstances.{AddingMachineMovesRays, RaysAreCanonical}
+use Rattle.fr_model_examples.specs.RayInstances.{RaysAreSame, AddingMachineMovesRays, RaysAreCanonical}
 
 ones_image : (n m : ℕ) → take n (repeated (1 ∷ []) m) ≡ act (Name adding_machine 0) (take n (repeated (2 ∷ []) m))
 ones_image zero m = refl
@@ -43,4 +43,11 @@ canonical_rays = record {
   ones = record { beginning = tt; period = ((omega arith, omega arith), tt); some = filled; least_beginning = λ u w h s. omega arith; primitive = λ u w h s. some_long w h };
   not_double = λ c. omega (arith, c.primitive [] (1 ∷ []) filled (λ n. doubled n n n (omega arith) (omega arith)));
   not_late = λ c. omega (arith, c.least_beginning [] (1 ∷ []) filled (λ n. late n (suc n) n (omega arith) (omega arith)));
+}
+
+pub same_rays : RaysAreSame
+same_rays = record {
+  ones = λ n. doubled n n n (omega arith) (omega arith);
+  not_twos = λ s. let e : ◌≡◌ {A = List ℕ} (1 ∷ []) (2 ∷ []) = s 1 in cc;
+  not_later = λ s. let e : ◌≡◌ {A = List ℕ} (1 ∷ 1 ∷ []) (1 ∷ 2 ∷ []) = s 2 in cc;
 }

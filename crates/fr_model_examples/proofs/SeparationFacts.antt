@@ -5,9 +5,10 @@ use Rattle.fr_model.specs.Terms.{Term, One, Name, Inverse, Product, act, IsAlike
 use Rattle.fr_model.specs.Separation.{IsShortlexBefore, IsSeparatingWord}
 use Rattle.fr_model.proofs.TermLaws.{back-act}
 use Rattle.fr_model.proofs.AlikeLaws.{act-nil}
+use Rattle.fr_model.proofs.CanonicalLaws.{shortlex_irrefl, shortlex_trans}
 use Rattle.fr_model.proofs.CodeLaws.{separating_word_unlike}
 use Rattle.fr_model_examples.specs.Groups.{adding_machine}
-use Rattle.fr_model_examples.specs.SeparationInstances.{AddingMachineDiffersFromInverse, AddingAndBackIsIdentity}
+use Rattle.fr_model_examples.specs.SeparationInstances.{WordsAreOrdered, AddingMachineDiffersFromInverse, AddingAndBackIsIdentity}
 use Rattle.fr_model_examples.proofs.Letters.{letter_cases}
 use Rattle.fr_model_examples.proofs.AddingMachine.{t_term}
 
@@ -56,4 +57,16 @@ pub and_back_is_identity : AddingAndBackIsIdentity
 and_back_is_identity = record {
   none = and_back;
   not_some = λ s. s.differs (and_back.images (1 ∷ []));
+}
+
+smaller : IsShortlexBefore (1 ∷ 2 ∷ []) (2 ∷ 1 ∷ [])
+smaller = inr (refl, inl (omega arith))
+
+pub words_are_ordered : WordsAreOrdered
+words_are_ordered = record {
+  shorter = inl (omega arith);
+  not_longer = λ b. shortlex_irrefl (2 ∷ []) (shortlex_trans (2 ∷ []) (1 ∷ 1 ∷ []) (2 ∷ []) (inl (omega arith)) b);
+  smaller = smaller;
+  not_larger = λ b. shortlex_irrefl (1 ∷ 2 ∷ []) (shortlex_trans (1 ∷ 2 ∷ []) (2 ∷ 1 ∷ []) (1 ∷ 2 ∷ []) smaller b);
+  not_itself = shortlex_irrefl (1 ∷ 2 ∷ []);
 }

@@ -115,6 +115,7 @@ pub four_pairs : AddingMachineHasFourPairs
 four_pairs = record {
   four = four;
   not_three = λ s. omega (arith, pair_count_once 2 (Name adding_machine 0) (Name adding_machine 0) 4 3 four s);
+  few = (4, omega arith, four);
   more_than_three = HasMoreThan-from_count (IsWord 2) (SamePair (Name adding_machine 0) (Name adding_machine 0)) 3 4 (omega arith) four;
   not_more_than_four = λ m. omega (arith, HasMorePairs-lt 2 (Name adding_machine 0) (Name adding_machine 0) 4 4 m four);
 }

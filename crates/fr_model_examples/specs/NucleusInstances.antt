@@ -1,7 +1,7 @@
 -- Limit sections, and the nucleus of the group of the swap of the first letter.
 use Rattle.std.specs.Prelude.{[], ◌∷◌}
-use Rattle.fr_model.specs.Terms.{Term, One, Name}
-use Rattle.fr_model.specs.Nuclei.{IsLimitSection, IsNucleusMember, IsGeneratorSection, IsAbsorbing, IsNucleus, IsNucleusDepth}
+use Rattle.fr_model.specs.Terms.{Term, One, Name, Product, Section}
+use Rattle.fr_model.specs.Nuclei.{IsLimitSection, IsNucleusMember, IsGeneratorSection, IsGroupElement, IsAbsorbing, IsNucleus, IsNucleusDepth}
 use Rattle.fr_model_examples.specs.Groups.{grigorchuk}
 
 -- 1 and the sections of the swap
@@ -23,3 +23,9 @@ pub record SwapHasTrivialNucleus : Type 0 where
   pub not_nucleus : ¬ IsNucleus 2 SwapSections (One ∷ Name grigorchuk 0 ∷ [])
   pub depth : IsNucleusDepth 2 SwapSections 1
   pub not_depth : ¬ IsNucleusDepth 2 SwapSections 0
+  pub not_two : ¬ IsNucleusDepth 2 SwapSections 2
+
+-- a product of sections is an element of the group, and a name is not written as one
+pub record ElementsAreProducts : Type 0 where
+  pub product : IsGroupElement SwapSections (Product One (Section (Name grigorchuk 0) []))
+  pub not_name : ¬ IsGroupElement SwapSections (Name grigorchuk 0)

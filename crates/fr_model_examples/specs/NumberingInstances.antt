@@ -2,8 +2,14 @@
 use Rattle.std.specs.Prelude.{◌≡◌, [], ◌∷◌}
 use Rattle.fr_model.specs.Terms.{Term}
 use Rattle.fr_model.specs.Automata.{state_term}
-use Rattle.fr_model.specs.Canonical.{IsCanonical, IsCode, code_of}
+use Rattle.fr_model.specs.Canonical.{IsLeastWord, IsCanonical, IsCode, code_of}
 use Rattle.fr_model_examples.specs.Automata.{adding_states, adding_states_turned, adding_states_and_spare, grigorchuk_states}
+
+-- 1 is the least word at which the adding machine has the identity for a section, and 2 is not the least for itself
+pub record LeastWordsOfAddingMachine : Type 0 where
+  pub nothing : IsLeastWord 2 (state_term adding_states 0) []
+  pub one : IsLeastWord 2 (state_term adding_states 0) (1 ∷ [])
+  pub not_two : ¬ IsLeastWord 2 (state_term adding_states 0) (2 ∷ [])
 
 -- the canonical automaton of the adding machine has the adding machine first and the identity once
 pub record AddingMachineIsNumbered : Type 0 where

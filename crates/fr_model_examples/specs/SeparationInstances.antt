@@ -1,8 +1,16 @@
 -- What tells the adding machine from its inverse, and that nothing tells their product from the identity.
 use Rattle.std.specs.Prelude.{[], ◌∷◌, Some, None}
 use Rattle.fr_model.specs.Terms.{Term, One, Name, Inverse, Product}
-use Rattle.fr_model.specs.Separation.{IsSeparatingWord, IsSeparation}
+use Rattle.fr_model.specs.Separation.{IsShortlexBefore, IsSeparatingWord, IsSeparation}
 use Rattle.fr_model_examples.specs.Groups.{adding_machine}
+
+-- shorter words come first, and of one length those with the smaller first difference
+pub record WordsAreOrdered : Type 0 where
+  pub shorter : IsShortlexBefore (2 ∷ []) (1 ∷ 1 ∷ [])
+  pub not_longer : ¬ IsShortlexBefore (1 ∷ 1 ∷ []) (2 ∷ [])
+  pub smaller : IsShortlexBefore (1 ∷ 2 ∷ []) (2 ∷ 1 ∷ [])
+  pub not_larger : ¬ IsShortlexBefore (2 ∷ 1 ∷ []) (1 ∷ 2 ∷ [])
+  pub not_itself : ¬ IsShortlexBefore (1 ∷ 2 ∷ []) (1 ∷ 2 ∷ [])
 
 -- the least word at which the adding machine and its inverse differ
 pub record AddingMachineDiffersFromInverse : Type 0 where

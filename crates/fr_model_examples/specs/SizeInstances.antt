@@ -1,7 +1,7 @@
 -- Sizes of the adding machine and of its square's pairs, and limits that they pass.
 use Rattle.fr_model.specs.Terms.{Name}
 use Rattle.fr_model.specs.Automata.{state_term}
-use Rattle.fr_model.specs.Classes.{IsSize, HasMoreStates, IsPairCount, HasMorePairs}
+use Rattle.fr_model.specs.Classes.{IsSize, HasMoreStates, IsPairCount, HasFewPairs, HasMorePairs}
 use Rattle.fr_model_examples.specs.Groups.{adding_machine}
 use Rattle.fr_model_examples.specs.Automata.{adding_states}
 
@@ -17,5 +17,6 @@ pub record AddingMachineHasTwoSections : Type 0 where
 pub record AddingMachineHasFourPairs : Type 0 where
   pub four : IsPairCount 2 (Name adding_machine 0) (Name adding_machine 0) 4
   pub not_three : ¬ IsPairCount 2 (Name adding_machine 0) (Name adding_machine 0) 3
+  pub few : HasFewPairs 2 (Name adding_machine 0) (Name adding_machine 0)
   pub more_than_three : HasMorePairs 2 (Name adding_machine 0) (Name adding_machine 0) 3
   pub not_more_than_four : ¬ HasMorePairs 2 (Name adding_machine 0) (Name adding_machine 0) 4

@@ -9,13 +9,13 @@ ghost use Rattle.fr_model_examples.specs.TermInstances.{TermsOverTwoLetters};
 ghost use Rattle.fr_model_examples.specs.ComputedActions.{AddingMachineActs, GrigorchukActs, BasilicaActs, LinearGrowthActs, LamplighterActs, TernaryAddingMachineActs, CancellingActs, DoublingActs, GrigorchukWithProductActs, StrangersStay};
 ghost use Rattle.fr_model_examples.specs.ComputedSectionWords.{GrigorchukSections, GrigorchukWithProductSections, CancellingSections, DoublingSections, TernaryProductSections, Reductions};
 ghost use Rattle.fr_model_examples.specs.SizeInstances.{AddingMachineHasTwoSections, AddingMachineHasFourPairs};
-ghost use Rattle.fr_model_examples.specs.SeparationInstances.{AddingMachineDiffersFromInverse, AddingAndBackIsIdentity};
-ghost use Rattle.fr_model_examples.specs.NumberingInstances.{AddingMachineIsNumbered, CodesAreWritten};
+ghost use Rattle.fr_model_examples.specs.SeparationInstances.{WordsAreOrdered, AddingMachineDiffersFromInverse, AddingAndBackIsIdentity};
+ghost use Rattle.fr_model_examples.specs.NumberingInstances.{LeastWordsOfAddingMachine, AddingMachineIsNumbered, CodesAreWritten};
 ghost use Rattle.fr_model_examples.specs.WalkInstances.{StatesAreReached, StatesAreLimits};
 ghost use Rattle.fr_model_examples.specs.ConstructionInstances.{NamesHaveAutomata, ClosuresPass, InverseAutomata, ProductAutomata};
-ghost use Rattle.fr_model_examples.specs.GrowthInstances.{SecondSwapIsActive, SwapIsFinitary, AddingMachineIsBounded, LamplighterIsExponential, LettersBelongToTerms};
-ghost use Rattle.fr_model_examples.specs.NucleusInstances.{LimitSections, SwapHasTrivialNucleus};
-ghost use Rattle.fr_model_examples.specs.RayInstances.{AddingMachineMovesRays, RaysAreCanonical};
+ghost use Rattle.fr_model_examples.specs.GrowthInstances.{SecondSwapIsActive, SwapIsFinitary, AddingMachineIsBounded, LinearGrowthIsLinear, LamplighterIsExponential, LettersBelongToTerms};
+ghost use Rattle.fr_model_examples.specs.NucleusInstances.{LimitSections, SwapHasTrivialNucleus, ElementsAreProducts};
+ghost use Rattle.fr_model_examples.specs.RayInstances.{AddingMachineMovesRays, RaysAreCanonical, RaysAreSame};
 
 /// Permutations of letters, their products, inverses and ranks, computed by another program.
 pub fn permutations_compute()
@@ -69,12 +69,14 @@ pub fn sizes_are_counted()
 pub fn least_words_separate()
     ensures differs { AddingMachineDiffersFromInverse }
     ensures alike { AddingAndBackIsIdentity }
+    ensures order { WordsAreOrdered }
 {}
 
 /// Canonical numberings and codes, with wrong ones refuted.
 pub fn elements_are_numbered()
     ensures numbering { AddingMachineIsNumbered }
     ensures codes { CodesAreWritten }
+    ensures words { LeastWordsOfAddingMachine }
 {}
 
 /// States that words lead to, and states that cycles lead to, with others refuted.
@@ -91,11 +93,12 @@ pub fn automata_are_constructed()
     ensures products { ProductAutomata }
 {}
 
-/// Finitary, bounded and exponential elements, with wrong depths, degrees and triples refuted.
+/// Finitary, bounded, linear and exponential elements, with wrong depths, degrees and triples refuted.
 pub fn growth_is_classified()
     ensures active { SecondSwapIsActive }
     ensures finitary { SwapIsFinitary }
     ensures bounded { AddingMachineIsBounded }
+    ensures linear { LinearGrowthIsLinear }
     ensures exponential { LamplighterIsExponential }
     ensures letters { LettersBelongToTerms }
 {}
@@ -104,10 +107,12 @@ pub fn growth_is_classified()
 pub fn nuclei_are_found()
     ensures limits { LimitSections }
     ensures nucleus { SwapHasTrivialNucleus }
+    ensures elements { ElementsAreProducts }
 {}
 
 /// Images and canonical forms of rays, with wrong ones refuted.
 pub fn rays_are_moved()
     ensures images { AddingMachineMovesRays }
     ensures forms { RaysAreCanonical }
+    ensures same { RaysAreSame }
 {}

@@ -1,4 +1,4 @@
--- The rows that are reached from a cycle, of a machine that grows by rows behind the others. This project's own.
+-- The rows that are reached from a cycle, of a machine that grows by rows behind the others.
 use Rattle.std.specs.Prelude.{ℕ, List, length}
 use Rattle.std.specs.List.{All}
 use Rattle.fr_machine.specs.declared.row.Row.{Row}

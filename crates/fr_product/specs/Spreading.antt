@@ -1,4 +1,4 @@
--- Rows behind the first ones, and what is reached from cycles among them. This project's own.
+-- Rows behind the first ones, and what is reached from cycles among them.
 use Rattle.std.specs.Prelude.{ℕ, ◌≡◌, ◌<◌, ◌≤◌, ◌+◌, ◌-◌, ◌⊎◌, Bool, true, false, if◌then◌else◌, List, [], ◌∷◌, length, map, slice_index, slice_index_or}
 use Rattle.fr_model.specs.Words.{IsLetter}
 use Rattle.fr_model.specs.Automata.{State, state_at, next_state, IsLimitState}

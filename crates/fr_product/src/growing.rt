@@ -15,7 +15,7 @@ use fr_machine::{Machine, Row};
 use std::alloc::Global;
 
 /// Which rows of a machine that grows by rows behind the others are reached from a cycle. Only new rows are looked at, and
-/// the rows before them that they reach. This project's own.
+/// the rows before them that they reach.
 #[derive(Debug, Drop)]
 pub struct GrowingLimits {
     // For each row whether it is reached from a cycle.

@@ -12,7 +12,7 @@ use fr_machine::{Machine, Minimal, Row, Walk};
 use std::alloc::{AllocError, AllocFailed, Global};
 use thiserror::Error;
 
-/// The most rows of a product. This limit is the project's own.
+/// The most rows of a product.
 pub const PAIR_LIMIT: usize = 65536;
 
 // For how many rows room is taken at first, so that small products take it once.
@@ -63,9 +63,8 @@ impl From<NoMemory> for ProductFault {
 }
 
 /// The machine whose row 0 is the product of row `s` of `a` and row `t` of `b`: first the one acts, then the other. Its rows
-/// are the pairs of a section of the one at a word and the section of the other at the word's image, each pair once, in the
-/// order in which they are met. This is the product of automata of Grigorchuk, Nekrashevych and Sushchanskii (Automata,
-/// dynamical systems, and groups); the limit is this project's own.
+/// are the pairs of a section of the one at a word and the section of the other at the word's image, each pair once. This is
+/// the product of automata of Grigorchuk, Nekrashevych and Sushchanskii (Automata, dynamical systems, and groups).
 ///
 /// Both machines are over one alphabet.
 ///

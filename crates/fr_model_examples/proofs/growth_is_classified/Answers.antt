@@ -1,4 +1,5 @@
 use Rattle.fr_model_examples.proofs.GrowthFacts.{second_swap_active, swap_finitary, adding_bounded, lamplighter_exponential, over_one_letter}
+use Rattle.fr_model_examples.proofs.LinearFacts.{linear_growth_linear}
 use Rattle.fr_model_examples.proofs.growth_is_classified.Goals as goal
 
 pub returns-clause-active : goal.returns-clause-active
@@ -15,3 +16,6 @@ returns-clause-exponential c = lamplighter_exponential
 
 pub returns-clause-letters : goal.returns-clause-letters
 returns-clause-letters c = over_one_letter
+
+pub returns-clause-linear : goal.returns-clause-linear
+returns-clause-linear c = linear_growth_linear
