@@ -9,8 +9,9 @@ use Rattle.fr_script.specs.declared.item.Item.{Item}
 use Rattle.fr_script.specs.declared.script.Script.{Script}
 use Rattle.fr_script.specs.Reading.{ReadsLine}
 use Rattle.fr_script.specs.Inner.{ReadsInner}
-use Rattle.fr_script.specs.Items.{line_kind, is_blank, is_group, alphabet_after, without_end, body_of}
+use Rattle.fr_script.specs.Items.{line_kind, is_blank, is_group, alphabet_after, without_end}
 use Rattle.fr_script.specs.Blocks.{before_end, from_end, said, inner_fault, group_fault, end_fault, first_of, block_body, ReadsBlock, EndsBlock, IsBlock}
+use Rattle.fr_script.specs.Keeping.{body_of}
 use Rattle.fr_script.specs.Scripts.{lines_of, HasItems, alphabet_of, IsScript}
 use Rattle.fr_script.proofs.Choices.{one_bool, some_bool, both}
 use Rattle.fr_script.proofs.OutcomeLaws.{one_line, some_line, one_inner, some_inner}

@@ -18,10 +18,11 @@ use Rattle.fr_script.specs.declared.line_reader.Advance.{Advance}
 use Rattle.fr_script.specs.declared.script.Script.{Script}
 use Rattle.fr_script.specs.Reading.{ReadsLine}
 use Rattle.fr_script.specs.Inner.{ReadsInner}
-use Rattle.fr_script.specs.Items.{line_kind, is_blank, is_group, is_end, alphabet_after, without_end, body_of}
-use Rattle.fr_script.specs.Pushes.{listed, begin, outside_of, or_fault, grown, ended_body, ended, ReadsOutside, ReadsInside, Advances, AdvancesFrom, RunsFrom, after_outside, after_inside, end_of, begun, IsReadByLines}
+use Rattle.fr_script.specs.Items.{line_kind, is_blank, is_group, is_end, alphabet_after, without_end, listed, begin, outside_of, or_fault, grown, ended_body, ended, ReadsOutside, ReadsInside}
 use Rattle.fr_script.specs.Blocks.{before_end, from_end, said, inner_fault, group_fault, end_fault, first_of, block_body, ReadsBlock, EndsBlock}
-use Rattle.fr_script.specs.Scripts.{lines_of, HasItems, alphabet_of, IsScript}
+use Rattle.fr_script.specs.Pushes.{Advances, AdvancesFrom, RunsFrom, after_outside, after_inside, end_of, begun}
+use Rattle.fr_script.specs.Keeping.{body_of}
+use Rattle.fr_script.specs.Scripts.{lines_of, HasItems, alphabet_of, IsScript, IsReadByLines}
 use Rattle.fr_script.proofs.Choices.{one_bool, some_bool, both}
 use Rattle.fr_script.proofs.OutcomeLaws.{one_line, some_line, one_inner, some_inner}
 use Rattle.fr_script.proofs.BlockLaws.{one_script}

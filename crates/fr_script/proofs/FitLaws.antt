@@ -3,10 +3,7 @@ use Rattle.std.proofs.Common.{◌≡◌, ℕ, zero, suc, ◌+◌, ◌≤◌, Boo
 use Rattle.std.specs.Prelude.{nat_lt, if◌then◌else◌, ◌-◌, slice_index}
 use Rattle.std.proofs.lemmas.Bool.{eqb-true, ltb-false}
 use Rattle.std.proofs.lemmas.List.{length-replicate, length-map, length-take-le}
-use Rattle.std.specs.List.{All}
-use Rattle.std.proofs.lemmas.List.Elements.{All-nil, All-cons}
 use Rattle.fr_syntax.specs.declared.statement.SecName.{SecName}
-use Rattle.fr_syntax.specs.declared.statement.Recursion.{Recursion}
 use Rattle.fr_syntax.specs.declared.statement.Statement.TheVariants as st
 use Rattle.fr_syntax.specs.declared.recursion.RecursionLine.{RecursionLine}
 use Rattle.fr_syntax.specs.declared.line.Line.{Line}
@@ -15,7 +12,7 @@ use Rattle.fr_syntax.specs.Grammar.{LineTree, AlphabetLine, GroupLine, LetLine, 
 use Rattle.fr_syntax.specs.LineValues.{line_value, line_notes}
 use Rattle.fr_syntax.specs.Recursions.{recursion_value}
 use Rattle.fr_syntax.specs.Lines.{Located, lexemes, without_return, code_of, tokens_at, tokens_of, is_blank as is_blank_byte, rest_of_token, lexeme_of, bad_place, passes_nesting}
-use Rattle.fr_syntax.specs.Fits.{FitsRecursion, RiseAbove, Rise, FitsRecursions, FitsStatement, FitsLine}
+use Rattle.fr_syntax.specs.Fits.{FitsRecursion, FitsStatement, FitsLine}
 use Rattle.fr_syntax.specs.Sizes.{statement_size, line_size}
 use Rattle.fr_syntax.proofs.FitLaws.{line-fits}
 use Rattle.fr_syntax.proofs.SizeLaws.{line-size}
@@ -26,13 +23,12 @@ use Rattle.fr_script.specs.declared.outcome.LineOutcome.{LineOutcome}
 use Rattle.fr_script.specs.declared.outcome.LineOutcome.TheVariants as o
 use Rattle.fr_script.specs.declared.inner.InnerOutcome.{InnerOutcome}
 use Rattle.fr_script.specs.declared.inner.InnerOutcome.TheVariants as i
-use Rattle.fr_script.specs.declared.item.Body.{Body}
-use Rattle.fr_script.specs.declared.item.Body.TheVariants as b
 use Rattle.fr_script.specs.Cycles.{cycles_letters, has_repeat}
 use Rattle.fr_script.specs.Reading as r
 use Rattle.fr_script.specs.Inner as inside
-use Rattle.fr_script.specs.Items.{alphabet_after, body_of}
-use Rattle.fr_script.specs.Fits.{IsOfReading, FitsBody, FitsLines}
+use Rattle.fr_script.specs.Items.{alphabet_after}
+use Rattle.fr_script.specs.Keeping.{body_of}
+use Rattle.fr_script.specs.Fits.{IsOfReading, FitsBody}
 use Rattle.fr_script.proofs.Choices.{any_bool, any_option}
 use Rattle.fr_script.proofs.CycleLaws.{IsPermutation-cycles}
 use Rattle.fr_script.proofs.LetterLaws.{HasLetters-value}
@@ -100,10 +96,10 @@ line-tokens-few : (line : List ℕ) → length (lexemes (tokens_of (code_of line
 unfolding tokens_of
 line-tokens-few line = omega (arith, length-map (tokens_at 1 0 (code_of line)) (λ token. token.lexeme), tokens-few 1 0 (code_of line), code-few line)
 
--- what a line outside a block says
+-- what a line outside a block says, whichever lines its item has
 abbrev pub OutcomeFits : ℕ → LineOutcome → Type 0
 OutcomeFits d o.Group = Unit {0}
-OutcomeFits d (o.Says statement) = FitsStatement d statement × (statement_size statement ≤ 4096)
+OutcomeFits d (o.Says statement) = ((low high : ℕ) → FitsStatement d low high statement) × (statement_size statement ≤ 4096)
 OutcomeFits d (o.Faulty kind) = IsOfReading kind
 
 outcome-faulty : (d : ℕ) (outcome : LineOutcome) (kind : LineFault) → IsOfReading kind → outcome ≡ r.faulty kind → OutcomeFits d outcome
@@ -113,7 +109,7 @@ alphabet-fits : (d : ℕ) (not_first out : Bool) (letters : ℕ) →
     OutcomeFits d (if not_first then r.faulty f.AlphabetPlace else (if out then r.faulty f.AlphabetRange else o.Says (st.Alphabet letters)))
 alphabet-fits d true out letters = tt
 alphabet-fits d false true letters = tt
-alphabet-fits d false false letters = (tt, omega arith)
+alphabet-fits d false false letters = ((λ low high. tt), omega arith)
 
 said-fits : (d : ℕ) (is_first : Bool) (line : Line) → FitsLine d line → line_size line ≤ 4096 → OutcomeFits d (r.said is_first line)
 said-fits d is_first (l.Alphabet letters) h g = alphabet-fits d (not is_first) (nat_lt letters 2 || nat_lt 8 letters) letters
@@ -160,43 +156,22 @@ outcome-fits d is_first line outcome =
     by true h P Q p q x = p x
     by false h P Q p q x = q h x
 
--- recursions whose lines rise up to one
-lines-rise : (d low high : ℕ) (rs : List Recursion) → FitsLines d low high rs → RiseAbove low rs
-lines-rise d low high [] h = tt
-lines-rise d low high (r ∷ rs) h = (h.0, lines-rise d r.line high rs h.2)
-
-lines-each : (d low high : ℕ) (rs : List Recursion) → FitsLines d low high rs → All (FitsRecursion d) rs
-lines-each d low high [] h = All-nil (FitsRecursion d)
-lines-each d low high (r ∷ rs) h = All-cons (FitsRecursion d) r rs h.1 (lines-each d r.line high rs h.2)
-
-rise : (low : ℕ) (rs : List Recursion) → RiseAbove low rs → Rise rs
-rise low [] h = tt
-rise low (r ∷ rs) h = h.1
-
-pub lines-fit : (d low high : ℕ) (rs : List Recursion) → FitsLines d low high rs → FitsRecursions d rs
-lines-fit d low high rs h = record { each = lines-each d low high rs h; rise = rise low rs (lines-rise d low high rs h) }
-
--- what is small is no larger than more
-pub body-within : (d few most : ℕ) (body : Body) → few ≤ most → FitsBody d few body → FitsBody d most body
-body-within d few most (b.Says statement) h fits = (fits.0, omega (arith, h, fits.1))
-body-within d few most (b.Faulty fault) h fits = fits
-
 -- the body of an item that is a line
-pub body-fits : (d n : ℕ) (outcome : LineOutcome) → OutcomeFits d outcome → FitsBody (alphabet_after d (body_of n outcome)) 4096 (body_of n outcome)
-body-fits d n o.Group g = (record { each = All-nil (FitsRecursion d); rise = tt }, omega arith)
-body-fits d n (o.Says (st.Alphabet a)) g = (tt, g.1)
-body-fits d n (o.Says (st.Group recursions)) g = g
-body-fits d n (o.Says (st.Let name e)) g = g
-body-fits d n (o.Says (st.Show e)) g = g
-body-fits d n (o.Says (st.States e)) g = g
-body-fits d n (o.Says (st.Wreath e)) g = g
-body-fits d n (o.Says (st.ClassOf e)) g = g
-body-fits d n (o.Says (st.Eq left right)) g = g
-body-fits d n (o.Says (st.Act e w)) g = g
-body-fits d n (o.Says (st.RayOf e ray)) g = g
-body-fits d n (o.Says (st.Order e k)) g = g
-body-fits d n (o.Says (st.NucleusOf es)) g = g
-body-fits d n (o.Faulty kind) g = g
+pub body-fits : (d n high : ℕ) (outcome : LineOutcome) → n ≤ high → OutcomeFits d outcome → FitsBody (alphabet_after d (body_of n outcome)) n high (body_of n outcome)
+body-fits d n high o.Group h g = (h, omega arith)
+body-fits d n high (o.Says (st.Alphabet a)) h g = (tt, g.1)
+body-fits d n high (o.Says (st.Group recursions)) h g = (g.0 n high, g.1)
+body-fits d n high (o.Says (st.Let name e)) h g = (g.0 n high, g.1)
+body-fits d n high (o.Says (st.Show e)) h g = (g.0 n high, g.1)
+body-fits d n high (o.Says (st.States e)) h g = (g.0 n high, g.1)
+body-fits d n high (o.Says (st.Wreath e)) h g = (g.0 n high, g.1)
+body-fits d n high (o.Says (st.ClassOf e)) h g = (g.0 n high, g.1)
+body-fits d n high (o.Says (st.Eq left right)) h g = (g.0 n high, g.1)
+body-fits d n high (o.Says (st.Act e w)) h g = (g.0 n high, g.1)
+body-fits d n high (o.Says (st.RayOf e ray)) h g = (g.0 n high, g.1)
+body-fits d n high (o.Says (st.Order e k)) h g = (g.0 n high, g.1)
+body-fits d n high (o.Says (st.NucleusOf es)) h g = (g.0 n high, g.1)
+body-fits d n high (o.Faulty kind) h g = g
 
 -- no accepted `alphabet` line
 abbrev pub NoAlphabet : LineOutcome → Type 0

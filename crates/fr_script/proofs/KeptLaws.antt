@@ -1,6 +1,7 @@
 -- A line that is kept unread says what it says when it is read.
-use Rattle.std.proofs.Common.{arith, ◌≡◌, ◌≢◌, ℕ, Bool, true, false, List, Option, Some, None, refl, ap, sym, ◌∙◌, subst, length, MatchBool}
+use Rattle.std.proofs.Common.{◌≡◌, ◌≢◌, ℕ, Bool, true, false, List, Option, Some, None, refl, ap, sym, ◌∙◌, subst, length, MatchBool}
 use Rattle.std.specs.Prelude.{nat_lt, if◌then◌else◌, MatchOption}
+use Rattle.fr_syntax.specs.declared.keyword.Keyword.{Keyword}
 use Rattle.fr_syntax.specs.declared.statement.Statement.{Statement}
 use Rattle.fr_syntax.specs.declared.statement.Statement.TheVariants as st
 use Rattle.fr_syntax.specs.Lines.{lexemes, code_of, tokens_of, bad_place, passes_nesting}
@@ -10,14 +11,12 @@ use Rattle.fr_script.specs.declared.fault.LineFault.TheVariants as f
 use Rattle.fr_script.specs.declared.outcome.LineOutcome.{LineOutcome}
 use Rattle.fr_script.specs.declared.outcome.LineOutcome.TheVariants as o
 use Rattle.fr_script.specs.declared.item.Body.{Body}
-use Rattle.fr_script.specs.declared.item.Body.TheVariants as b
 use Rattle.fr_script.specs.declared.item.LineKind.{LineKind}
 use Rattle.fr_script.specs.declared.item.Outside.{Outside}
 use Rattle.fr_script.specs.declared.item.Outside.TheVariants as out
 use Rattle.fr_script.specs.Reading.{begins_statement, faulty, Parses, ReadsText, ReadsLine}
-use Rattle.fr_script.specs.Items.{line_kind, is_blank, is_group, body_of, said_alphabet, alphabet_after, asks}
-use Rattle.fr_script.specs.Pushes.{outside_of, ReadsOutside}
-use Rattle.fr_script.specs.Keeping.{IsBodyOf, unless_bad, outcome_of, waits}
+use Rattle.fr_script.specs.Items.{line_kind, is_blank, is_group, outside_of, alphabet_after, ReadsOutside}
+use Rattle.fr_script.specs.Keeping.{body_of, IsBodyOf, unless_bad, outcome_of, line_word, word_waits, word_asks, TellsQuestion}
 use Rattle.fr_syntax.specs.Questions.{is_question}
 use Rattle.fr_script.proofs.ReadingLaws.{parses as parses_reading}
 use Rattle.fr_script.proofs.OutcomeLaws.{one_line}
@@ -25,6 +24,8 @@ use Rattle.fr_script.proofs.CycleLaws.{clash}
 use Rattle.fr_script.proofs.KindLaws.{other_outside}
 use Rattle.fr_script.proofs.KeywordLaws.{kind-matches, Matches}
 use Rattle.fr_script.proofs.ByLines.{outside-other}
+use Rattle.fr_script.proofs.FitLaws.{NoAlphabet, alphabet-stays}
+use Rattle.fr_script.proofs.WordLaws.{said_word, Begins, line-begins, waits-kind}
 
 either : (test : Bool) (a b : LineOutcome) (P Q : LineOutcome → Type 0) → P a → Q b → MatchBool test (P (if test then a else b)) (Q (if test then a else b))
 either true a b P Q p q = p
@@ -57,55 +58,58 @@ outcome_reads d is_first line =
 pub outcome_is : (d : ℕ) (is_first : Bool) (line : List ℕ) (outcome : LineOutcome) → ReadsLine d is_first line outcome → outcome_of d is_first line ≡ outcome
 outcome_is d is_first line outcome has = one_line d is_first line (outcome_of d is_first line) outcome (outcome_reads d is_first line) has
 
--- a line that is no `group` line begins no block
-pub no_group : (d : ℕ) (is_first : Bool) (line : List ℕ) (outcome : LineOutcome) → is_group (line_kind line) ≡ false → ReadsLine d is_first line outcome → outcome ≢ o.Group
-no_group d is_first line outcome h reads e =
-    let matches : Matches false outcome = rw h at (kind-matches d is_first line outcome reads) in
-    let P : LineOutcome → Type 0 = λ x. Matches false x in
-    subst P e matches
+-- a line that may wait begins no block
+pub waits-no_group : (d : ℕ) (is_first : Bool) (line : List ℕ) (outcome : LineOutcome) → word_waits (line_word line) ≡ true → ReadsLine d is_first line outcome → outcome ≢ o.Group
+waits-no_group d is_first line outcome h reads e =
+    let first : line_word line ≡ _ = subst (Begins (line_word line)) e (line-begins d is_first line outcome reads) in
+    clash (sym (ap word_waits first) ∙ h) refl
 
--- a line that says something begins no block
-pub says-no_group : (d : ℕ) (is_first : Bool) (line : List ℕ) (statement : Statement) (outcome : LineOutcome) → outcome_of d is_first line ≡ o.Says statement →
-    ReadsLine d is_first line outcome → outcome ≢ o.Group
-says-no_group d is_first line statement outcome says reads e =
-    let P : LineOutcome → Type 0 = λ x. Matches false x in
-    subst P (sym says ∙ outcome_is d is_first line outcome reads ∙ e) tt
+no-alphabet : (first : Option Keyword) (outcome : LineOutcome) → word_waits first ≡ true → Begins first outcome → NoAlphabet outcome
+no-alphabet first o.Group h b = tt
+no-alphabet first (o.Says (st.Alphabet a)) h b = absurd (clash (sym (ap word_waits b) ∙ h) refl)
+no-alphabet first (o.Says (st.Group recursions)) h b = tt
+no-alphabet first (o.Says (st.Let name e)) h b = tt
+no-alphabet first (o.Says (st.Show e)) h b = tt
+no-alphabet first (o.Says (st.States e)) h b = tt
+no-alphabet first (o.Says (st.Wreath e)) h b = tt
+no-alphabet first (o.Says (st.ClassOf e)) h b = tt
+no-alphabet first (o.Says (st.Eq left right)) h b = tt
+no-alphabet first (o.Says (st.Act e w)) h b = tt
+no-alphabet first (o.Says (st.RayOf e ray)) h b = tt
+no-alphabet first (o.Says (st.Order e bound)) h b = tt
+no-alphabet first (o.Says (st.NucleusOf es)) h b = tt
+no-alphabet first (o.Faulty kind) h b = tt
 
--- what its line may stand for leaves the alphabet
-waits-stays : (a : ℕ) (statement : Statement) → waits statement ≡ true → said_alphabet a statement ≡ a
-waits-stays a (st.Alphabet b) h = absurd (clash h refl)
-waits-stays a (st.Group recursions) h = refl
-waits-stays a (st.Let name e) h = refl
-waits-stays a (st.Show e) h = refl
-waits-stays a (st.States e) h = refl
-waits-stays a (st.Wreath e) h = refl
-waits-stays a (st.ClassOf e) h = refl
-waits-stays a (st.Eq left right) h = refl
-waits-stays a (st.Act e w) h = refl
-waits-stays a (st.RayOf e ray) h = refl
-waits-stays a (st.Order e bound) h = refl
-waits-stays a (st.NucleusOf es) h = refl
+-- a line that may wait leaves the alphabet
+pub waits-alphabet : (a d n : ℕ) (is_first : Bool) (line : List ℕ) → word_waits (line_word line) ≡ true → a ≡ alphabet_after a (body_of n (outcome_of d is_first line))
+waits-alphabet a d n is_first line h =
+    let outcome = outcome_of d is_first line in
+    sym (alphabet-stays a n outcome (no-alphabet (line_word line) outcome h (line-begins d is_first line outcome (outcome_reads d is_first line))))
 
--- a line that is kept leaves the alphabet
-pub kept-alphabet : (a d n : ℕ) (is_first : Bool) (line : List ℕ) (statement : Statement) → outcome_of d is_first line ≡ o.Says statement → waits statement ≡ true →
-    a ≡ alphabet_after a (body_of n (outcome_of d is_first line))
-kept-alphabet a d n is_first line statement says h = sym (ap (λ x. alphabet_after a (body_of n x)) says ∙ waits-stays a statement h)
+word_asks-said : (statement : Statement) → word_asks (Some (said_word statement)) ≡ is_question statement
+word_asks-said (st.Alphabet a) = refl
+word_asks-said (st.Group recursions) = refl
+word_asks-said (st.Let name e) = refl
+word_asks-said (st.Show e) = refl
+word_asks-said (st.States e) = refl
+word_asks-said (st.Wreath e) = refl
+word_asks-said (st.ClassOf e) = refl
+word_asks-said (st.Eq left right) = refl
+word_asks-said (st.Act e w) = refl
+word_asks-said (st.RayOf e ray) = refl
+word_asks-said (st.Order e bound) = refl
+word_asks-said (st.NucleusOf es) = refl
 
--- whether it asks, by what it says
-pub kept-asks : (d n : ℕ) (is_first : Bool) (line : List ℕ) (statement : Statement) → outcome_of d is_first line ≡ o.Says statement →
-    is_question statement ≡ asks (body_of n (outcome_of d is_first line))
-kept-asks d n is_first line statement says = sym (ap (λ x. asks (body_of n x)) says)
+word-tells : (n : ℕ) (first : Option Keyword) (outcome : LineOutcome) → Begins first outcome → TellsQuestion (body_of n outcome) (word_asks first)
+word-tells n first o.Group b = ap word_asks b
+word-tells n first (o.Says statement) b = ap word_asks b ∙ word_asks-said statement
+word-tells n first (o.Faulty kind) b = tt
 
--- what a line says whose body says it
-pub says-outcome : (d n : ℕ) (is_first : Bool) (line text : List ℕ) (outcome : LineOutcome) (statement : Statement) → text ≡ line → ReadsLine d is_first line outcome →
-    outcome ≢ o.Group → body_of n outcome ≡ b.Says statement → outcome_of d is_first text ≡ o.Says statement
-says-outcome d n is_first line text outcome statement same reads differs says =
-    ap (outcome_of d is_first) same ∙ outcome_is d is_first line outcome reads ∙ by outcome differs says
-  where
-    by : (x : LineOutcome) → x ≢ o.Group → body_of n x ≡ b.Says statement → x ≡ o.Says statement
-    by o.Group h e = absurd (h refl)
-    by (o.Says other) h e = ap o.Says (grind (arith, e))
-    by (o.Faulty kind) h e = absurd (grind (arith, e))
+-- the first word of a line tells whether the line asks
+pub line-tells : (d n : ℕ) (is_first : Bool) (line : List ℕ) → TellsQuestion (body_of n (outcome_of d is_first line)) (word_asks (line_word line))
+line-tells d n is_first line =
+    let outcome = outcome_of d is_first line in
+    word-tells n (line_word line) outcome (line-begins d is_first line outcome (outcome_reads d is_first line))
 
 -- what is kept of a line says what the line says
 pub kept-says : (d n : ℕ) (is_first : Bool) (line text : List ℕ) → text ≡ line → IsBodyOf d is_first n line (body_of n (outcome_of d is_first text))
@@ -118,12 +122,12 @@ pub kept-reads : (d n : ℕ) (is_first : Bool) (line text : List ℕ) (outcome :
 kept-reads d n is_first line text outcome same has =
     ap (body_of n) (sym (outcome_is d is_first line outcome has) ∙ ap (outcome_of d is_first) same)
 
--- a line that is no `group` line is an item
+-- a line that is kept is an item
 pub kept_outside : (d : ℕ) (is_first : Bool) (n : ℕ) (line : List ℕ) (kind : LineKind) (body : Body) → kind ≡ line_kind line → is_blank kind line ≡ false →
-    is_group kind ≡ false → IsBodyOf d is_first n line body → ReadsOutside d is_first n line (out.Is (record { line = n; body = body }))
-kept_outside d is_first n line kind body k blank other is =
-    let h : is_group (line_kind line) ≡ false = ap is_group (sym k) ∙ other in
-    let matches : Matches false is.0 = rw h at (kind-matches d is_first line is.0 is.1) in
+    word_waits (line_word line) ≡ true → IsBodyOf d is_first n line body → ReadsOutside d is_first n line (out.Is (record { line = n; body = body }))
+kept_outside d is_first n line kind body k blank h is =
+    let other : is_group kind ≡ false = ap is_group k ∙ waits-kind line h in
+    let matches : Matches false is.0 = rw (waits-kind line h) at (kind-matches d is_first line is.0 is.1) in
     let same : outside_of n (is_group kind) is.0 ≡ out.Is (record { line = n; body = body }) =
     ap (λ g. outside_of n g is.0) other ∙ outside-other n is.0 matches ∙ ap (λ x. out.Is (record { line = n; body = x })) (sym is.2) in
     let P : Outside → Type 0 = λ x. ReadsOutside d is_first n line x in

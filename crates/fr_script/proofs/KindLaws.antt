@@ -1,5 +1,5 @@
 -- What a line does, by its tokens.
-use Rattle.std.proofs.Common.{◌≡◌, ℕ, Bool, true, false, List, [], ◌∷◌, refl, ap, sym, ◌∙◌, subst, length}
+use Rattle.std.proofs.Common.{◌≡◌, ℕ, Bool, true, false, List, [], ◌∷◌, refl, ap, sym, ◌∙◌, length}
 use Rattle.std.specs.Prelude.{nat_lt}
 use Rattle.fr_syntax.specs.Tokens.{Lexeme}
 use Rattle.fr_syntax.specs.Lines.{lexemes, code_of, tokens_of}
@@ -12,8 +12,7 @@ use Rattle.fr_script.specs.declared.item.Outside.TheVariants as out
 use Rattle.fr_script.specs.declared.item.Inside.TheVariants as ins
 use Rattle.fr_script.specs.Reading.{ReadsLine}
 use Rattle.fr_script.specs.Inner.{ReadsInner}
-use Rattle.fr_script.specs.Items.{kind_of, line_kind, is_blank, is_group, is_end}
-use Rattle.fr_script.specs.Pushes.{outside_of, ReadsOutside, grown, ended, ReadsInside}
+use Rattle.fr_script.specs.Items.{kind_of, line_kind, is_blank, is_group, is_end, outside_of, ReadsOutside, grown, ended, ReadsInside}
 
 -- a line without a first token has none
 pub kind_of-none : (line : List ℕ) → lexemes (tokens_of (code_of line)) ≡ [] → k.Empty ≡ line_kind line
@@ -35,12 +34,6 @@ pub other_outside : (d : ℕ) (is_first : Bool) (n : ℕ) (line : List ℕ) (kin
 other_outside d is_first n line kind outcome k h r =
     let b : is_blank (line_kind line) line ≡ false = sym (ap (λ x. is_blank x line) k) ∙ h in
     rw b (outcome, r, ap (λ x. outside_of n (is_group x) outcome) k)
-
-pub group_outside : (d : ℕ) (is_first : Bool) (n : ℕ) (line : List ℕ) (kind : LineKind) (outcome : LineOutcome) → kind ≡ line_kind line → is_blank kind line ≡ false →
-    is_group kind ≡ true → ReadsLine d is_first line outcome → ReadsOutside d is_first n line (outside_of n true outcome)
-group_outside d is_first n line kind outcome k h group r =
-    let P : Bool → Type 0 = λ g. ReadsOutside d is_first n line (outside_of n g outcome) in
-    subst P group (other_outside d is_first n line kind outcome k h r)
 
 pub end_inside : (d : ℕ) (block : Block) (n : ℕ) (line : List ℕ) (kind : LineKind) → kind ≡ line_kind line → is_end kind ≡ true →
     ReadsInside d block n line (ins.Ends (ended block n (nat_lt 4096 (length line))))

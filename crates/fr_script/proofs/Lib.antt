@@ -3,6 +3,7 @@ pub mod ReadingLaws
 pub mod InnerLaws
 pub mod KindLaws
 pub mod OutcomeLaws
+pub mod WordLaws
 pub mod KeptLaws
 pub mod CycleLaws
 pub mod CycleImages

@@ -1,4 +1,4 @@
--- A block as a whole: its `group` line, the lines up to the first end, and its one fault.
+-- A block as a whole: its `group` line, the lines up to the first end, and its one fault. The language is this project's own.
 use Rattle.std.specs.Prelude.{ℕ, ◌≡◌, ◌+◌, Bool, nat_lt, if◌then◌else◌, List, [], ◌∷◌, ◌++◌, length, Option, Some, None, MatchBool}
 use Rattle.fr_syntax.specs.declared.statement.Recursion.{Recursion}
 use Rattle.fr_syntax.specs.declared.statement.Statement.TheVariants as st

@@ -1,4 +1,4 @@
--- The texts of faults.
+-- The texts of faults. They are this project's own.
 use Rattle.std.specs.Prelude.{ℕ, List, ◌++◌, codes, decimal}
 use Rattle.fr_script.specs.declared.fault.Fault.{Fault}
 use Rattle.fr_script.specs.declared.fault.LineFault.{LineFault}

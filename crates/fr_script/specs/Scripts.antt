@@ -1,11 +1,14 @@
--- A script is cut into lines, and its items are its blocks and its other lines.
+-- A script is cut into lines, and its items are its blocks and its other lines. The language is this project's own.
 use Rattle.std.specs.Prelude.{ℕ, zero, suc, ◌≡◌, ◌+◌, ◌≤◌, Bool, true, false, not, ◌==◌, if◌then◌else◌, List, [], ◌∷◌, ◌++◌, length, take_while, MatchBool}
 use Rattle.fr_script.specs.declared.outcome.LineOutcome.{LineOutcome}
 use Rattle.fr_script.specs.declared.item.Item.{Item}
+use Rattle.fr_script.specs.declared.line_reader.State.{State}
 use Rattle.fr_script.specs.declared.script.Script.{Script}
 use Rattle.fr_script.specs.Reading.{ReadsLine}
-use Rattle.fr_script.specs.Items.{body_of, line_kind, is_blank, is_group, alphabet_after}
+use Rattle.fr_script.specs.Keeping.{body_of}
+use Rattle.fr_script.specs.Items.{line_kind, is_blank, is_group, listed, alphabet_after}
 use Rattle.fr_script.specs.Blocks.{before_end, IsBlock}
+use Rattle.fr_script.specs.Pushes.{RunsFrom, end_of, begun}
 
 -- a byte in front of the first line
 abbrev pub in_front : ℕ → List (List ℕ) → List (List ℕ)
@@ -45,3 +48,12 @@ pub record IsScript (bytes : List ℕ) (script : Script) : Type 0 where
   pub few : length (lines_of bytes) ≤ 4096
   pub items : HasItems 2 true 1 0 (lines_of bytes) script.items
   pub alphabet : script.alphabet ≡ alphabet_of 2 script.items
+
+-- the script that a reader gives to whom its lines are given one after the other
+pub record IsReadByLines (bytes : List ℕ) (script : Script) : Type 0 where
+  pub few : length (lines_of bytes) ≤ 4096
+  pub ended : List Item
+  pub last : State
+  pub runs : RunsFrom begun (lines_of bytes) ended last
+  pub items : script.items ≡ ended ++ listed (end_of last.block)
+  pub alphabet : script.alphabet ≡ last.alphabet

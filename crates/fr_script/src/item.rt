@@ -4,11 +4,10 @@ ghost use Rattle.std.specs.Prelude.{◌≡◌, ◌==◌, ◌∷◌, List, length
 ghost use Rattle.std.specs.Str.{bytes_eq};
 ghost use Rattle.fr_syntax.specs.Tokens.{Lexeme, seen};
 ghost use Rattle.fr_script.specs.Items as spec;
-ghost use Rattle.fr_script.specs.Pushes as pushes;
 
 use crate::fault::{Fault, LineFault};
 use crate::inner::{InnerOutcome, read_inner};
-use crate::kept::Kept;
+use crate::kept::{Kept, may_wait};
 use crate::outcome::{LINE_LIMIT, LineOutcome, read_line};
 use fr_alphabet::{Alphabet, NoMemory};
 use fr_syntax::{LineFront, Recursion, Statement, Token, code, line_front};
@@ -107,7 +106,7 @@ fn line_kind(line: &[u8]) -> LineKind
 }
 
 fn begin(alloc: Global, line: u32, fault: Option<Fault>) -> Block
-    ensures { result ≡ pushes.begin line fault }
+    ensures { result ≡ spec.begin line fault }
 {
     Block {
         line,
@@ -117,7 +116,7 @@ fn begin(alloc: Global, line: u32, fault: Option<Fault>) -> Block
 }
 
 fn outside_of(alloc: Global, n: u32, is_group: bool, outcome: LineOutcome) -> Outside
-    ensures { result ≡ pushes.outside_of n is_group outcome }
+    ensures { result ≡ spec.outside_of n is_group outcome }
 {
     match outcome {
         LineOutcome::Group => Outside::Begins(begin(alloc, n, None)),
@@ -139,28 +138,26 @@ fn outside_of(alloc: Global, n: u32, is_group: bool, outcome: LineOutcome) -> Ou
     }
 }
 
-/// Reads the line n, which stands outside a block. What it says is kept as its bytes where
-/// `keeps_tree` is false.
+/// Reads the line n, which stands outside a block.
 pub fn read_outside(
     alloc: Global,
     a: Alphabet,
     is_first: bool,
     n: u32,
     line: &[u8],
-    keeps_tree: bool,
 ) -> Result<Outside, NoMemory>
-    ensures { IfOk result (λ r. pushes.ReadsOutside a is_first n line.now r) }
+    ensures { IfOk result (λ r. spec.ReadsOutside a is_first n line.now r) }
 {
     let kind = line_kind(line);
     if is_blank(kind, line) {
         return Ok(Outside::Blank);
     }
-    if is_group(kind) {
-        let outcome = read_line(alloc, a, is_first, line)?;
-        return Ok(outside_of(alloc, n, true, outcome));
+    if may_wait(line) {
+        let body = Kept::line(alloc, a, is_first, n, line)?;
+        return Ok(Outside::Is(Item { line: n, body }));
     }
-    let body = Kept::line(alloc, a, is_first, n, line, keeps_tree)?;
-    Ok(Outside::Is(Item { line: n, body }))
+    let outcome = read_line(alloc, a, is_first, line)?;
+    Ok(outside_of(alloc, n, is_group(kind), outcome))
 }
 
 fn is_blank(kind: LineKind, line: &[u8]) -> bool
@@ -191,7 +188,7 @@ fn is_end(kind: LineKind) -> bool
 }
 
 fn grown(block: Block, n: u32, outcome: InnerOutcome) -> Result<Block, NoMemory>
-    ensures { IfOk result (λ r. r ≡ pushes.grown block n outcome) }
+    ensures { IfOk result (λ r. r ≡ spec.grown block n outcome) }
 {
     let Block {
         line,
@@ -216,7 +213,7 @@ fn grown(block: Block, n: u32, outcome: InnerOutcome) -> Result<Block, NoMemory>
 }
 
 fn ended(block: Block, n: u32, is_long: bool) -> Item
-    ensures { result ≡ pushes.ended block n is_long }
+    ensures { result ≡ spec.ended block n is_long }
 {
     let Block {
         line,
@@ -246,7 +243,7 @@ pub fn read_inside(
     n: u32,
     line: &[u8],
 ) -> Result<Inside, NoMemory>
-    ensures { IfOk result (λ r. pushes.ReadsInside a block n line.now r) }
+    ensures { IfOk result (λ r. spec.ReadsInside a block n line.now r) }
 {
     let kind = line_kind(line);
     if is_end(kind) {

@@ -1,28 +1,29 @@
 //! What items say, kept as their lines until it is asked for.
 //!
-//! What a line says may take many times the memory of the line. So of a long script the lines are
-//! kept as their bytes, once they were read, and read again where they are evaluated.
+//! What a line says takes many times the memory of the line, and the time to read it. So a script
+//! keeps its lines as they are, and each is read where it is evaluated.
 
-ghost use Rattle.std.specs.Prelude.{◌≡◌, ◌≢◌, IfOk, false};
-ghost use Rattle.fr_script.specs.Items.{alphabet_after, asks, body_of, is_group, line_kind};
+ghost use Rattle.std.specs.Prelude.{◌≡◌, ◌≢◌, ◌∷◌, List, IfOk, true};
+ghost use Rattle.fr_syntax.specs.Tokens.{Lexeme, seen};
+ghost use Rattle.fr_script.specs.Items.{alphabet_after};
 ghost use Rattle.fr_script.specs.Keeping as spec;
 
 use crate::fault::Fault;
 use crate::item::Body;
 use crate::outcome::{LineOutcome, read_line};
 use fr_alphabet::{Alphabet, NoMemory};
-use fr_syntax::Statement;
+use fr_syntax::{Keyword, Statement, Token, code, line_front};
 use std::alloc::Global;
 use std::marker::Model;
 
-/// What an item says, or its fault. A line that is kept as its bytes takes little more memory than
-/// these, and is read again where it is asked for.
+/// What an item says, or its fault. A line takes little more memory here than its bytes, and is
+/// read where it is asked for.
 #[derive(Drop)]
 pub struct Kept {
     form: Form,
 }
 
-// A block has several lines, and the reader looks at what an `alphabet` line says, so these are kept as they were read.
+// A block has several lines, and the reader looks at what an `alphabet` line says, so these are read at once.
 #[derive(Drop)]
 enum Form {
     Line {
@@ -30,7 +31,6 @@ enum Form {
         alphabet: Alphabet,
         is_first: bool,
         number: u32,
-        asks: bool,
     },
     Whole(Body),
 }
@@ -77,10 +77,46 @@ impl<'a> Model for Told<'a> {
     ghost view = { λ t. told_body t.telling };
 }
 
-fn waits(statement: &Statement) -> bool
-    ensures { result ≡ spec.waits statement.now }
+fn word_of(token: Token<'_>) -> Option<Keyword>
+    ensures { (rest : List Lexeme) → result ≡ spec.word_of (seen token.entry ∷ rest) }
 {
-    !matches!(statement, Statement::Alphabet(_))
+    match token {
+        Token::Name(text) => Keyword::of(text),
+        _ => None,
+    }
+}
+
+fn line_word(line: &[u8]) -> Option<Keyword>
+    ensures { result ≡ spec.line_word line.now }
+{
+    match line_front(code(line)) {
+        Some(front) => word_of(front.token),
+        None => None,
+    }
+}
+
+fn word_waits(word: Option<Keyword>) -> bool
+    ensures { result ≡ spec.word_waits word }
+{
+    !matches!(word, Some(Keyword::Alphabet | Keyword::Group))
+}
+
+fn word_asks(word: Option<Keyword>) -> bool
+    ensures { result ≡ spec.word_asks word }
+{
+    !matches!(
+        word,
+        Some(Keyword::Alphabet | Keyword::Group | Keyword::Let)
+    )
+}
+
+fn is_question(statement: &Statement) -> bool
+    ensures { result ≡ spec.is_question statement.now }
+{
+    !matches!(
+        statement,
+        Statement::Alphabet(_) | Statement::Group(_) | Statement::Let(_, _)
+    )
 }
 
 fn alphabet_after(a: Alphabet, body: &Body) -> Alphabet
@@ -94,7 +130,7 @@ fn alphabet_after(a: Alphabet, body: &Body) -> Alphabet
 
 fn body_of(number: u32, outcome: LineOutcome) -> Body
     requires { outcome ≢ LineOutcome.Group }
-    ensures { result ≡ body_of number outcome }
+    ensures { result ≡ spec.body_of number outcome }
 {
     match outcome {
         LineOutcome::Says(statement) => Body::Says(statement),
@@ -103,33 +139,32 @@ fn body_of(number: u32, outcome: LineOutcome) -> Body
     }
 }
 
+/// Whether a line outside a block may be kept unread: its first token is neither `alphabet` nor `group`.
+pub fn may_wait(line: &[u8]) -> bool
+    ensures { result ≡ spec.word_waits (spec.line_word line.now) }
+{
+    word_waits(line_word(line))
+}
+
 impl Kept {
-    /// Reads a line outside a block whose first token is not `group`, and keeps what it says, or
-    /// its bytes in place of that where `keeps_tree` is false. The alphabet is that of the lines above
-    /// it, `is_first` says that no item stands above it, and its number counts from 1.
+    /// Keeps a line outside a block unread. The alphabet is that of the lines above it, `is_first`
+    /// says that no item stands above it, and its number counts from 1.
     pub fn line(
         alloc: Global,
         alphabet: Alphabet,
         is_first: bool,
         number: u32,
         line: &[u8],
-        keeps_tree: bool,
     ) -> Result<Kept, NoMemory>
-        requires { is_group (line_kind line.now) ≡ false }
+        requires { spec.word_waits (spec.line_word line.now) ≡ true }
         ensures { IfOk result (spec.IsBodyOf alphabet is_first number line.now) }
     {
-        let body = body_of(number, read_line(alloc, alphabet, is_first, line)?);
-        let asks = match &body {
-            Body::Says(statement) if !keeps_tree && waits(statement) => statement.asks(),
-            _ => return Ok(Kept::whole(body)),
-        };
         let text = Vec::from_slice(alloc, line)?;
         let form = Form::Line {
             text,
             alphabet,
             is_first,
             number,
-            asks,
         };
         Ok(Kept { form })
     }
@@ -142,7 +177,7 @@ impl Kept {
         Kept { form }
     }
 
-    /// What the item says, or its fault. A line that is kept as its bytes is read in each call.
+    /// What the item says, or its fault. A line that was kept unread is read in each call.
     pub fn read(&self, alloc: Global) -> Result<Told<'_>, NoMemory>
         ensures { IfOk result (λ told. told ≡ self.now) }
     {
@@ -155,7 +190,6 @@ impl Kept {
                 alphabet,
                 is_first,
                 number,
-                ..
             } => {
                 let outcome = read_line(alloc, *alphabet, *is_first, text)?;
                 Ok(Told {
@@ -165,14 +199,15 @@ impl Kept {
         }
     }
 
-    /// Whether the item asks: yes for a question, no for a definition and for a faulty item.
+    /// Whether the item asks, without reading it: yes for a question, no for a definition, and one
+    /// of both for a faulty item.
     pub fn asks(&self) -> bool
-        ensures { result ≡ asks self.now }
+        ensures { spec.TellsQuestion self.now result }
     {
         match &self.form {
-            Form::Whole(Body::Says(statement)) => statement.asks(),
+            Form::Whole(Body::Says(statement)) => is_question(statement),
             Form::Whole(Body::Faulty(_)) => false,
-            Form::Line { asks, .. } => *asks,
+            Form::Line { text, .. } => word_asks(line_word(text)),
         }
     }
 

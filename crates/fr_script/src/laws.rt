@@ -6,9 +6,9 @@ ghost use Rattle.fr_script.specs.Cycles.{cycles_letters, disjoint_cycles_image, 
 ghost use Rattle.fr_script.specs.declared.script.Script.{Script};
 ghost use Rattle.fr_script.specs.declared.line_reader.Advance.{Advance};
 ghost use Rattle.fr_script.specs.declared.line_reader.State.{State};
-ghost use Rattle.fr_script.specs.Pushes.{Advances, IsReadByLines};
+ghost use Rattle.fr_script.specs.Pushes.{Advances};
 ghost use Rattle.fr_script.specs.Fits.{FitsScript};
-ghost use Rattle.fr_script.specs.Scripts.{IsScript, lines_of};
+ghost use Rattle.fr_script.specs.Scripts.{IsReadByLines, IsScript, lines_of};
 
 /// Bytes write one script.
 pub fn scripts_are_unique()

@@ -20,7 +20,7 @@ mod tests;
 pub use fault::{Fault, LineFault};
 pub use fr_syntax::{Atom, Expr, Factor, Name, Op, Ray, Recursion, SecName, SecWord, Statement};
 pub use item::{Body, Item};
-pub use kept::{Kept, Told};
+pub use kept::{Kept, Told, may_wait};
 pub use laws::{
     disjoint_cycles_are_their_product, pushes_are_unique, scripts_are_read_by_lines,
     scripts_are_unique, scripts_exist, scripts_fit,

@@ -1,6 +1,6 @@
 //! A reader that is given a script line by line.
 
-ghost use Rattle.std.specs.Prelude.{◌≡◌, ◌<◌, ◌↔◌, IfOk, IsErr, IsOk, Err, true, false};
+ghost use Rattle.std.specs.Prelude.{◌≡◌, ◌<◌, ◌↔◌, IfOk, IsErr, IsNone, IsOk, Err, Some};
 ghost use Rattle.fr_script.specs.Fits.{GivesFitting};
 ghost use Rattle.fr_script.specs.Pushes as spec;
 
@@ -14,12 +14,6 @@ use std::marker::Model;
 /// The most lines of a script.
 pub const LINES_LIMIT: u32 = 4096;
 
-// While what lines say takes less than this together, it is kept, and the lines need not be read again.
-const TREES_BYTES: usize = 16 << 20;
-
-// At most so many bytes are taken for a node of what a line says.
-const NODE_BYTES: usize = 128;
-
 /// What was read of a script.
 #[derive(Drop)]
 pub struct State {
@@ -30,14 +24,6 @@ pub struct State {
     pub begun: bool,
     /// The block that has no end yet.
     pub block: Option<Block>,
-}
-
-/// How far a reader is: the most lines that it takes, and what was read, which is None after there
-/// was no memory.
-#[derive(Drop)]
-pub struct Progress {
-    pub limit: u32,
-    pub state: Option<State>,
 }
 
 /// What was read with one line more, and the item that it ends.
@@ -143,11 +129,10 @@ fn advance_outside(
     begun: bool,
     count: u32,
     line: &[u8],
-    keeps_tree: bool,
 ) -> Result<Advance, NoMemory>
     ensures { IfOk result (λ r. spec.AdvancesOutside alphabet begun count line.now r) }
 {
-    let outside = read_outside(alloc, alphabet, !begun, count, line, keeps_tree)?;
+    let outside = read_outside(alloc, alphabet, !begun, count, line)?;
     Ok(after_outside(alphabet, begun, count, outside))
 }
 
@@ -165,8 +150,8 @@ fn advance_inside(
     Ok(after_inside(alphabet, begun, count, inside))
 }
 
-fn advanced(alloc: Global, state: State, line: &[u8], keeps_tree: bool) -> Result<Advance, NoMemory>
-    requires { state.count < 4294967295 }
+fn advanced(alloc: Global, state: State, line: &[u8]) -> Result<Advance, NoMemory>
+    requires { state.count < 4096 }
     ensures { IfOk result (λ r. spec.Advances state line.now r) }
 {
     let State {
@@ -177,38 +162,29 @@ fn advanced(alloc: Global, state: State, line: &[u8], keeps_tree: bool) -> Resul
     } = state;
     match block {
         Some(block) => advance_inside(alloc, alphabet, begun, count + 1, block, line),
-        None => advance_outside(alloc, alphabet, begun, count + 1, line, keeps_tree),
+        None => advance_outside(alloc, alphabet, begun, count + 1, line),
     }
-}
-
-// A node of what a line says has a mark or a blank of its own in the line, but for the first.
-fn tree_bytes(line: &[u8]) -> usize {
-    let marks = line.iter().filter(|c| !c.is_ascii_alphanumeric()).count();
-    marks
-        .saturating_add(1)
-        .saturating_mul(NODE_BYTES)
-        .saturating_add(line.len())
 }
 
 /// A reader that is given the lines of a script one after the other, and gives its items.
 #[derive(Drop)]
 pub struct LineReader {
     alloc: Global,
-    progress: Progress,
-    // The bytes that what lines say may still take.
-    room: usize,
+    // None after there was no memory.
+    state: Option<State>,
 }
 
-// Clauses see how far it is.
+// Clauses see what was read, and None after there was no memory.
 impl Model for LineReader {
-    ghost use Rattle.fr_script.specs.declared.line_reader.Progress.{Progress};
-    ghost use Rattle.fr_script.specs.Fits.{FitsProgress};
+    ghost use Rattle.std.specs.Prelude.{Option};
+    ghost use Rattle.fr_script.specs.declared.line_reader.State.{State};
+    ghost use Rattle.fr_script.specs.Fits.{FitsState};
 
-    ghost Value = { Progress };
+    ghost Value = { Option State };
 
-    ghost view = { λ r. r.progress };
+    ghost view = { λ r. r.state };
 
-    ghost invariant = { λ r. FitsProgress r.progress };
+    ghost invariant = { λ r. FitsState r.state };
 }
 
 fn two_letters() -> Alphabet
@@ -220,60 +196,21 @@ fn two_letters() -> Alphabet
     }
 }
 
-fn started(alloc: Global, alphabet: Alphabet, begun: bool) -> LineReader
-    ensures { result ≡ spec.started alphabet begun }
-{
-    let state = State {
-        alphabet,
-        count: 0,
-        begun,
-        block: None,
-    };
-    LineReader {
-        alloc,
-        progress: Progress {
-            limit: LINES_LIMIT,
-            state: Some(state),
-        },
-        room: TREES_BYTES,
-    }
-}
-
 impl LineReader {
-    /// A reader before the first line, of at most 4,096 lines. It takes no memory.
+    /// A reader before the first line. It takes no memory.
     pub fn new(alloc: Global) -> Result<LineReader, NoMemory>
         ensures succeeds { IsOk result }
-        ensures begun { IfOk result (λ reader. reader ≡ spec.started 2 false) }
+        ensures begun { IfOk result (λ reader. reader ≡ Some spec.begun) }
     {
-        Ok(started(alloc, two_letters(), false))
-    }
-
-    /// A reader before the first line, as if an `alphabet` line had been read: each further one is
-    /// refused. It takes at most 4,096 lines, and no memory.
-    pub fn over(alloc: Global, alphabet: Alphabet) -> Result<LineReader, NoMemory>
-        ensures succeeds { IsOk result }
-        ensures begun { IfOk result (λ reader. reader ≡ spec.started alphabet true) }
-    {
-        Ok(started(alloc, alphabet, true))
-    }
-
-    /// The reader, which from now on takes as many lines as can be counted, 4,294,967,295.
-    pub fn without_limit(self) -> LineReader
-        ensures { result ≡ spec.unlimited self }
-    {
-        let LineReader {
+        Ok(LineReader {
             alloc,
-            progress,
-            room,
-        } = self;
-        LineReader {
-            alloc,
-            progress: Progress {
-                limit: u32::MAX,
-                state: progress.state,
-            },
-            room,
-        }
+            state: Some(State {
+                alphabet: two_letters(),
+                count: 0,
+                begun: false,
+                block: None,
+            }),
+        })
     }
 
     /// The alphabet of the lines so far: two letters, or those of an accepted `alphabet` line.
@@ -281,7 +218,7 @@ impl LineReader {
     pub fn alphabet(&self) -> Alphabet
         ensures { result ≡ spec.told_alphabet self.now }
     {
-        match &self.progress.state {
+        match &self.state {
             Some(state) => state.alphabet,
             None => two_letters(),
         }
@@ -290,28 +227,25 @@ impl LineReader {
     /// Takes the next line, without its byte 10, and gives the item that it ends: none for a blank
     /// line, for one that begins a block, and inside a block that it does not end.
     ///
-    /// The error `LinesPassed` comes exactly where as many lines as the reader takes were taken
-    /// before, and changes nothing. After `NoMemory` each later call answers `NoMemory`.
+    /// The error `LinesPassed` comes exactly where 4,096 lines were taken before, and changes
+    /// nothing. After `NoMemory` each later call answers `NoMemory`.
     pub fn push(&mut self, line: &[u8]) -> Result<Option<Item>, ScriptFault>
         ensures ok { IfOk result (λ item. spec.Pushes self.old line.now item self.new) }
         ensures fits { IfOk result (λ item. GivesFitting self.new item) }
         ensures passed { (result ≡ Err ScriptFault.LinesPassed) ↔ spec.IsFull self.old }
         ensures kept { result ≡ Err ScriptFault.LinesPassed → self.new ≡ self.old }
-        ensures memory { result ≡ Err ScriptFault.NoMemory → spec.IsBroken self.new }
-        ensures broken { spec.IsBroken self.old → result ≡ Err ScriptFault.NoMemory }
+        ensures memory { result ≡ Err ScriptFault.NoMemory → IsNone self.new }
+        ensures broken { IsNone self.old → result ≡ Err ScriptFault.NoMemory }
     {
-        let Some(state) = self.progress.state.take() else {
+        let Some(state) = self.state.take() else {
             return Err(ScriptFault::NoMemory);
         };
-        if state.count >= self.progress.limit {
-            self.progress.state = Some(state);
+        if state.count >= LINES_LIMIT {
+            self.state = Some(state);
             return Err(ScriptFault::LinesPassed);
         }
-        let bytes = tree_bytes(line);
-        let keeps_tree = bytes <= self.room;
-        self.room = self.room.saturating_sub(bytes);
-        let Advance { state, item } = advanced(self.alloc, state, line, keeps_tree)?;
-        self.progress.state = Some(state);
+        let Advance { state, item } = advanced(self.alloc, state, line)?;
+        self.state = Some(state);
         Ok(item)
     }
 
@@ -321,9 +255,9 @@ impl LineReader {
     pub fn finish(self) -> Result<Option<Item>, NoMemory>
         ensures item { IfOk result (λ item. item ≡ spec.last_item self) }
         ensures fits { IfOk result (λ item. GivesFitting self item) }
-        ensures memory { IsErr result ↔ spec.IsBroken self }
+        ensures memory { IsErr result ↔ IsNone self }
     {
-        match self.progress.state {
+        match self.state {
             Some(state) => Ok(end_of(state.block)),
             None => Err(NoMemory),
         }

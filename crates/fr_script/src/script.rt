@@ -2,7 +2,7 @@
 
 ghost use Rattle.std.specs.Prelude.{◌≡◌, ◌<◌, ◌≤◌, ◌⊎◌, ◌++◌, ◌∷◌, IfOk, Err, OnOk, length};
 ghost use Rattle.fr_script.specs.Fits.{FitsScript};
-ghost use Rattle.fr_script.specs.Pushes.{listed, IsReadByLines};
+ghost use Rattle.fr_script.specs.Items.{listed};
 ghost use Rattle.fr_script.specs.Scripts as spec;
 
 use crate::item::Item;
@@ -65,7 +65,7 @@ pub struct Script {
 pub fn read_script(alloc: Global, bytes: &[u8]) -> Result<Script, ScriptFault>
     ensures ok { IfOk result (λ script. spec.IsScript bytes.now script) }
     ensures fits { IfOk result FitsScript }
-    ensures by_lines { IfOk result (λ script. IsReadByLines bytes.now script) }
+    ensures by_lines { IfOk result (λ script. spec.IsReadByLines bytes.now script) }
     ensures passed { result ≡ Err ScriptFault.LinesPassed → 4096 < length (spec.lines_of bytes.now) }
     ensures over { 4096 < length (spec.lines_of bytes.now) → (result ≡ Err ScriptFault.LinesPassed) ⊎ (result ≡ Err ScriptFault.NoMemory) }
 {

@@ -79,12 +79,12 @@ fn a_kept_line_is_read_as_what_it_says(rt: HostRuntime) -> Result<(), Fail> {
         ("alphabet 3\nact t 3213", true, "3213"),
         (
             "alphabet 2\nact t 3213",
-            false,
+            true,
             "line 2: letter out of range\n",
         ),
         ("  let u = t # a name", false, "u"),
         ("let = t", false, "line 1: syntax at 5\n"),
-        ("show", false, "line 1: syntax at 5\n"),
+        ("frob", true, "line 1: unknown statement\n"),
         ("alphabet 9", false, "line 1: alphabet out of range\n"),
     ];
     for (lines, asks, expected) in cases {

@@ -1,15 +1,16 @@
 use Rattle.std.proofs.Common.{◌≡◌, ◌∙◌, sym, ap, ◌++◌, ◌==◌, List, ℕ, [], ◌∷◌, length, true, arith}
 use Rattle.std.proofs.lemmas.Bool.{eqb-true}
-use Rattle.fr_script.specs.Pushes.{listed}
+use Rattle.fr_script.specs.Items.{listed}
 use Rattle.fr_script.specs.declared.item.Item.{Item}
-use Rattle.fr_script.specs.declared.line_reader.Progress.{Progress}
+use Rattle.fr_script.specs.declared.line_reader.State.{State}
+use Rattle.std.proofs.Common.{Option}
 use Rattle.fr_script.proofs.FitItems.{script-fits}
 use Rattle.fr_script.proofs.ScriptLaws.{Left, left-by_lines, left-none}
 use Rattle.fr_script.proofs.script.read_script.Goals as goal
 
-at_end : (text rest : List ℕ) (items : List Item) (reader : Progress) → (length rest == 0) ≡ true → Left text rest items reader → Left text [] items reader
-at_end text [] items reader h left = left
-at_end text (c ∷ cs) items reader h left = let none : length (c ∷ cs) ≡ 0 = eqb-true (length (c ∷ cs)) 0 h in absurd (omega (arith, none))
+at_end : (text rest : List ℕ) (items : List Item) (state : Option State) → (length rest == 0) ≡ true → Left text rest items state → Left text [] items state
+at_end text [] items state h left = left
+at_end text (c ∷ cs) items state h left = let none : length (c ∷ cs) ≡ 0 = eqb-true (length (c ∷ cs)) 0 h in absurd (omega (arith, none))
 
 pub returns-clause-ok : goal.returns-clause-ok
 returns-clause-ok c =

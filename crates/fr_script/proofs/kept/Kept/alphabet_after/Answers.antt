@@ -1,11 +1,10 @@
 use Rattle.std.proofs.Common.{ap, sym, ◌∙◌, subst}
 use Rattle.fr_script.specs.Items.{alphabet_after}
 use Rattle.fr_script.specs.Keeping.{form_body, IsForm}
-use Rattle.fr_script.proofs.KeptLaws.{kept-alphabet}
+use Rattle.fr_script.proofs.KeptLaws.{waits-alphabet}
 use Rattle.fr_script.proofs.kept.Kept.alphabet_after.Goals as goal
 
 pub returns-in-Line : goal.returns-in-Line
 returns-in-Line c =
-    let form = subst IsForm c.in-Line.is c.self.invariant in
-    kept-alphabet c.args.a c.in-Line.alphabet c.in-Line.number c.in-Line.is_first c.in-Line.text.items form.0 form.1 form.2
+    waits-alphabet c.args.a c.in-Line.alphabet c.in-Line.number c.in-Line.is_first c.in-Line.text.items (subst IsForm c.in-Line.is c.self.invariant)
     ∙ ap (alphabet_after c.args.a) (ap form_body (sym c.in-Line.is) ∙ c.self.view_is)
