@@ -210,19 +210,19 @@ line-by-tokens : (d : ℕ) (line : LineTree) → AreNumerals (line_tokens line) 
     FitsLine d (line_value d line)
 line-by-tokens d (AlphabetLine text) n few h = tt
 line-by-tokens d GroupLine n few h = tt
-line-by-tokens d (LetLine name e) n few h = expr-fits d e
-line-by-tokens d (ShowLine e) n few h = expr-fits d e
-line-by-tokens d (StatesLine e) n few h = expr-fits d e
-line-by-tokens d (WreathLine e) n few h = expr-fits d e
-line-by-tokens d (ClassLine e) n few h = expr-fits d e
-line-by-tokens d (EqLine left right) n few h = (expr-fits d left, expr-fits d right)
-line-by-tokens d (ActLine e w) n few h = (expr-fits d e, word_value-word d w)
-line-by-tokens d (RayLine e ray) n few h = (
+line-by-tokens d (LetLine name e) n few h = λ low high. expr-fits d e
+line-by-tokens d (ShowLine e) n few h = λ low high. expr-fits d e
+line-by-tokens d (StatesLine e) n few h = λ low high. expr-fits d e
+line-by-tokens d (WreathLine e) n few h = λ low high. expr-fits d e
+line-by-tokens d (ClassLine e) n few h = λ low high. expr-fits d e
+line-by-tokens d (EqLine left right) n few h = λ low high. (expr-fits d left, expr-fits d right)
+line-by-tokens d (ActLine e w) n few h = λ low high. (expr-fits d e, word_value-word d w)
+line-by-tokens d (RayLine e ray) n few h = λ low high. (
   expr-fits d e,
   ray-fits d ray (note_expr d e no_notes) (numerals-expr e (spell_ray ray []) n.1) (omega (arith, few, length-expr e (spell_ray ray []))) h,
 )
-line-by-tokens d (OrderLine e text) n few h = expr-fits d e
-line-by-tokens d (NucleusLine es) n few h = exprs-fit d es
+line-by-tokens d (OrderLine e text) n few h = λ low high. expr-fits d e
+line-by-tokens d (NucleusLine es) n few h = λ low high. exprs-fit d es
 
 -- what a line of at most 4,096 bytes says fits the alphabet over which it is read, where none of its words is refused
 pub line-fits : (d : ℕ) (text : List ℕ) (line : LineTree) → lexemes (tokens_of text) ≡ line_tokens line → length text ≤ 4096 → (line_notes d line).not_a_letter ≡ false →

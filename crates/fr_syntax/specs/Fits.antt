@@ -1,6 +1,5 @@
--- What a line says over an alphabet of d letters: its words and permutations are over it.
+-- What a line says over an alphabet of d letters: its words and permutations are over it. This is the project's own notion.
 use Rattle.std.specs.Prelude.{ℕ, ◌≡◌, ◌+◌, ◌<◌, ◌≤◌, Bool, List, [], ◌∷◌, length}
-use Rattle.std.specs.List.{All}
 use Rattle.fr_model.specs.Words.{IsWord}
 use Rattle.fr_model.specs.Permutations.{IsPermutation}
 use Rattle.fr_syntax.specs.declared.tree.Expr.{Expr, out-Expr}
@@ -63,20 +62,10 @@ pub record FitsRecursion (d : ℕ) (r : Recursion) : Type 0 where
   pub permutes : IsPermutation d r.perm
   pub arity : length r.sections ≡ d
 
--- the lines of recursions rise from above `low`
-abbrev pub RiseAbove : ℕ → List Recursion → Type 0
-RiseAbove low [] = Unit {0}
-RiseAbove low (r ∷ rs) = (low < r.line) × RiseAbove r.line rs
-
--- the lines of recursions rise
-abbrev pub Rise : List Recursion → Type 0
-Rise [] = Unit {0}
-Rise (r ∷ rs) = RiseAbove r.line rs
-
--- each fits, and their lines rise
-pub record FitsRecursions (d : ℕ) (recursions : List Recursion) : Type 0 where
-  pub each : All (FitsRecursion d) recursions
-  pub rise : Rise recursions
+-- each fits, and their lines rise from above `low` to `high`
+abbrev pub FitsRecursions : ℕ → ℕ → ℕ → List Recursion → Type 0
+FitsRecursions d low high [] = low ≤ high
+FitsRecursions d low high (r ∷ rs) = (low < r.line) × FitsRecursion d r × FitsRecursions d r.line high rs
 
 -- letters of the alphabet alone, at most 4,096, and some of them in the period
 pub record FitsRay (d : ℕ) (ray : Ray) : Type 0 where
@@ -85,23 +74,23 @@ pub record FitsRay (d : ℕ) (ray : Ray) : Type 0 where
   pub some : 0 < length ray.period
   pub most : length ray.before + length ray.period ≤ 4096
 
--- what an item says
-abbrev pub FitsStatement : ℕ → Statement → Type 0
-FitsStatement d (st.Alphabet a) = Unit {0}
-FitsStatement d (st.Group recursions) = FitsRecursions d recursions
-FitsStatement d (st.Let name e) = FitsExpr d e
-FitsStatement d (st.Show e) = FitsExpr d e
-FitsStatement d (st.States e) = FitsExpr d e
-FitsStatement d (st.Wreath e) = FitsExpr d e
-FitsStatement d (st.ClassOf e) = FitsExpr d e
-FitsStatement d (st.Eq left right) = FitsExpr d left × FitsExpr d right
-FitsStatement d (st.Act e w) = FitsExpr d e × IsWord d w
-FitsStatement d (st.RayOf e ray) = FitsExpr d e × FitsRay d ray
-FitsStatement d (st.Order e k) = FitsExpr d e
-FitsStatement d (st.NucleusOf es) = (0 < length es) × FitsExprs d es
+-- what an item says whose lines are those from `low` to `high`
+abbrev pub FitsStatement : ℕ → ℕ → ℕ → Statement → Type 0
+FitsStatement d low high (st.Alphabet a) = Unit {0}
+FitsStatement d low high (st.Group recursions) = FitsRecursions d low high recursions
+FitsStatement d low high (st.Let name e) = FitsExpr d e
+FitsStatement d low high (st.Show e) = FitsExpr d e
+FitsStatement d low high (st.States e) = FitsExpr d e
+FitsStatement d low high (st.Wreath e) = FitsExpr d e
+FitsStatement d low high (st.ClassOf e) = FitsExpr d e
+FitsStatement d low high (st.Eq left right) = FitsExpr d left × FitsExpr d right
+FitsStatement d low high (st.Act e w) = FitsExpr d e × IsWord d w
+FitsStatement d low high (st.RayOf e ray) = FitsExpr d e × FitsRay d ray
+FitsStatement d low high (st.Order e k) = FitsExpr d e
+FitsStatement d low high (st.NucleusOf es) = (0 < length es) × FitsExprs d es
 
--- what a line outside a block says fits
+-- what a line outside a block says fits, whichever lines its item has
 abbrev pub FitsLine : ℕ → Line → Type 0
 FitsLine d (l.Alphabet letters) = Unit {0}
 FitsLine d l.Group = Unit {0}
-FitsLine d (l.Says statement) = FitsStatement d statement
+FitsLine d (l.Says statement) = (low high : ℕ) → FitsStatement d low high statement

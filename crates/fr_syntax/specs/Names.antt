@@ -1,4 +1,4 @@
--- How the bytes of a name are kept.
+-- How the bytes of a name are kept. This is the project's own form.
 use Rattle.std.specs.Prelude.{ℕ, ◌≤◌, List, take}
 use Rattle.fr_syntax.specs.declared.name.Text.{Text}
 use Rattle.fr_syntax.specs.declared.name.Text.TheVariants as t

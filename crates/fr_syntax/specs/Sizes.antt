@@ -1,4 +1,4 @@
--- How many atoms and operations an expression has, those inside brackets counted.
+-- How many atoms and operations an expression has, those inside brackets counted. This is the project's own notion.
 use Rattle.std.specs.Prelude.{ℕ, ◌+◌, List, [], ◌∷◌, length, sum}
 use Rattle.fr_syntax.specs.declared.tree.Expr.{Expr, Expr-F, fold-Expr}
 use Rattle.fr_syntax.specs.declared.tree.Factor.{Factor, Factor-F, fold-Factor}
