@@ -16,8 +16,7 @@ use Rattle.fr_script.specs.declared.item.Outside.{Outside}
 use Rattle.fr_script.specs.declared.item.Outside.TheVariants as out
 use Rattle.fr_script.specs.Reading.{begins_statement, faulty, Parses, ReadsText, ReadsLine}
 use Rattle.fr_script.specs.Items.{line_kind, is_blank, is_group, outside_of, alphabet_after, ReadsOutside}
-use Rattle.fr_script.specs.Keeping.{body_of, IsBodyOf, unless_bad, outcome_of, line_word, word_waits, word_asks, TellsQuestion}
-use Rattle.fr_syntax.specs.Questions.{is_question}
+use Rattle.fr_script.specs.Keeping.{body_of, IsBodyOf, unless_bad, outcome_of, line_word, word_waits, word_asks, is_question, TellsQuestion}
 use Rattle.fr_script.proofs.ReadingLaws.{parses as parses_reading}
 use Rattle.fr_script.proofs.OutcomeLaws.{one_line}
 use Rattle.fr_script.proofs.CycleLaws.{clash}

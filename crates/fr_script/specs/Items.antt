@@ -21,7 +21,6 @@ use Rattle.fr_script.specs.declared.item.Inside.TheVariants as ins
 use Rattle.fr_script.specs.declared.item.LineKind.{LineKind}
 use Rattle.fr_script.specs.declared.item.LineKind.TheVariants as k
 use Rattle.fr_syntax.specs.Tokens.{Lexeme, Name}
-use Rattle.fr_syntax.specs.Questions.{is_question}
 use Rattle.fr_syntax.specs.Lines.{lexemes, code_of, tokens_of}
 use Rattle.fr_script.specs.Reading.{ReadsLine}
 use Rattle.fr_script.specs.Inner.{ReadsInner}
@@ -108,11 +107,6 @@ without_end n = record { line = n; body = b.Faulty (record { line = n; kind = f.
 abbrev pub listed : Option Item → List Item
 listed None = []
 listed (Some item) = item ∷ []
-
--- whether an item asks: it says a question
-abbrev pub asks : Body → Bool
-asks (b.Says statement) = is_question statement
-asks (b.Faulty fault) = false
 
 -- an `alphabet` line sets the alphabet
 abbrev pub said_alphabet : ℕ → Statement → ℕ

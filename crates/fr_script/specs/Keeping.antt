@@ -2,12 +2,12 @@
 use Rattle.std.specs.Prelude.{ℕ, ◌≡◌, Bool, true, false, nat_lt, if◌then◌else◌, List, [], ◌∷◌, length, Option, Some, None}
 use Rattle.fr_syntax.specs.declared.keyword.Keyword.{Keyword}
 use Rattle.fr_syntax.specs.declared.keyword.Keyword.TheVariants as k
+use Rattle.fr_syntax.specs.declared.statement.Statement.{Statement}
 use Rattle.fr_syntax.specs.declared.statement.Statement.TheVariants as st
 use Rattle.fr_syntax.specs.declared.line.LineReading.{LineReading}
 use Rattle.fr_syntax.specs.declared.line.LineReading.TheVariants as l
 use Rattle.fr_syntax.specs.Tokens.{Lexeme, Name}
 use Rattle.fr_syntax.specs.Keywords.{keyword_of}
-use Rattle.fr_syntax.specs.Questions.{is_question}
 use Rattle.fr_syntax.specs.LineSteps.{reading}
 use Rattle.fr_syntax.specs.Lines.{Located, lexemes, code_of, tokens_of, bad_place, place_of, passes_nesting}
 use Rattle.fr_script.specs.declared.fault.LineFault.TheVariants as fault
@@ -75,6 +75,13 @@ word_asks (Some k.Alphabet) = false
 word_asks (Some k.Group) = false
 word_asks (Some k.Let) = false
 word_asks _ = true
+
+-- a statement is a question unless it defines letters or names
+abbrev pub is_question : Statement → Bool
+is_question (st.Alphabet a) = false
+is_question (st.Group recursions) = false
+is_question (st.Let name e) = false
+is_question _ = true
 
 -- the answer is yes for a question and no for a definition
 abbrev pub TellsQuestion : Body → Bool → Type 0

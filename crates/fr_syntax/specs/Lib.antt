@@ -2,7 +2,6 @@ pub mod Names
 pub mod Tokens
 pub mod Grammar
 pub mod Values
-pub mod Questions
 pub mod Steps
 pub mod Keywords
 pub mod LineSteps

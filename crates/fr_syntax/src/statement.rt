@@ -1,7 +1,6 @@
 //! What the lines of a script say.
 
 ghost use Rattle.std.specs.Prelude.{◌≡◌};
-ghost use Rattle.fr_syntax.specs.Questions.{is_question};
 
 use crate::name::Name;
 use crate::tree::Expr;
@@ -93,16 +92,4 @@ pub enum Statement {
     Order(Expr, u32),
     /// The nucleus of the group of some elements.
     NucleusOf(Items<Expr>),
-}
-
-impl Statement {
-    /// Whether it asks: yes for a question, no for a definition.
-    pub fn asks(&self) -> bool
-        ensures { result ≡ is_question self.now }
-    {
-        !matches!(
-            self,
-            Statement::Alphabet(_) | Statement::Group(_) | Statement::Let(_, _)
-        )
-    }
 }
