@@ -103,7 +103,6 @@ fn made_inverse<S: Store>(
     ensures evaluates { (t : Term) → Stands S.view store.old a t
         → Evaluates S.view (S.view.alphabet store.old) store.old store.new charge.old charge.new (inverse_of t) result }
     ensures known { IfOk result (λ h. IsKnown (S.view.known store.new) h) }
-    ensures handles { IfOk result (λ h. AreHandles (S.view.alphabet store.old) (S.view.known store.old)) }
     ensures keeps { Keeps (S.view.known store.old) (S.view.known store.new) }
     ensures continues { Continues S.view store.old store.new }
     ensures most { charge.new ≤ charge.old + 1024 }

@@ -9,7 +9,7 @@ use crate::steps::{identity, invert};
 use fr_alphabet::{Alphabet, NoMemory};
 use fr_canon::read_machine;
 use fr_script::LineFault;
-use fr_store::{Counted, Remembering, Store, VecStore};
+use fr_store::{Counted, Store, VecStore};
 use fr_syntax::{Atom, Expr, Factor, Name, Op};
 use sqlite_items::Items;
 use std::alloc::Global;
@@ -95,7 +95,7 @@ fn a_full_store_says_how_full(rt: HostRuntime) -> Result<(), Fail> {
 fn a_product_is_made_once(rt: HostRuntime) -> Result<(), Fail> {
     let a = Alphabet::new(2).expect(&rt, "two letters");
     let adding = read_machine(rt.alloc(), a, ADDING)?;
-    let mut store = Counted::new(Remembering::new(rt.alloc(), VecStore::new(rt.alloc(), a, 16)?)?);
+    let mut store = Counted::new(VecStore::new(rt.alloc(), a, 16)?);
     let t = store.intern(&adding).ok().expect(&rt, "room");
     let mut charge = 0;
     let square = multiply(rt.alloc(), &mut store, t, t, &mut charge)
@@ -118,7 +118,7 @@ fn a_product_is_made_once(rt: HostRuntime) -> Result<(), Fail> {
 fn an_inverse_and_the_identity_are_made_once(rt: HostRuntime) -> Result<(), Fail> {
     let a = Alphabet::new(2).expect(&rt, "two letters");
     let adding = read_machine(rt.alloc(), a, ADDING)?;
-    let mut store = Counted::new(Remembering::new(rt.alloc(), VecStore::new(rt.alloc(), a, 16)?)?);
+    let mut store = Counted::new(VecStore::new(rt.alloc(), a, 16)?);
     let t = store.intern(&adding).ok().expect(&rt, "room");
     let mut charge = 0;
     let back = invert(rt.alloc(), &mut store, t, &mut charge)

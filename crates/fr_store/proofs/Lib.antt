@@ -9,5 +9,3 @@ pub mod EnterLaws
 pub mod PairLaws
 pub mod ProductLaws
 pub mod InverseLaws
-pub mod RememberedLaws
-pub mod ListedLaws

@@ -1,19 +1,20 @@
--- How many pairs of sections two elements have.
+-- How many pairs of sections the elements of two rows have.
 use Rattle.std.proofs.Common.{ℕ, zero, suc, ◌≡◌, ◌≢◌, ◌+◌, ◌*◌, ◌/◌, ◌%◌, ◌<◌, ◌≤◌, ◌⊎◌, inl, inr, List, [], ◌∷◌, ◌++◌, length, map, get_or, refl, sym, ◌∙◌, ap, subst, arith}
 use Rattle.std.proofs.lemmas.List.{get_or_default, get_or-map, get_or_append_left, get_or_push, length_push, length-map, append_assoc, append-nil}
 use Rattle.std.proofs.lemmas.Bool.{cases_lt, cases_eq, cases_order}
 use Rattle.std.proofs.lemmas.Nat.{div-mul-add, mod-mul-add, mul-add-lt}
 use Rattle.fr_model.specs.Words.{IsLetter, IsWord}
 use Rattle.fr_model.specs.Permutations.{image}
-use Rattle.fr_model.specs.Terms.{Term, Section, IsTerm, act, IsAlike}
+use Rattle.fr_model.specs.Terms.{Section, act, IsAlike}
 use Rattle.fr_model.specs.Automata.{State, state_at, next_state, state_after, state_term, IsAutomaton}
 use Rattle.fr_model.specs.Classes.{SamePair, IsPairCount}
-use Rattle.fr_model.specs.Canonical.{IsCanonical, IsCode}
-use Rattle.fr_model.proofs.AlikeLaws.{act-nil, alike_sym, alike_trans, alike_from_words, section_section}
-use Rattle.fr_model.proofs.AutomatonLaws.{act-state_letter, act-state_term, section_state, state_after-lt, next_state-lt, IsTerm-state_term}
-use Rattle.fr_model.proofs.CanonicalLaws.{same_place, least_words_differ, at_zero, canonical_alike}
-use Rattle.fr_model.proofs.ClassLaws.{IsPairCount-alike}
+use Rattle.fr_model.proofs.AlikeLaws.{alike_sym, alike_trans}
+use Rattle.fr_model.proofs.AutomatonLaws.{act-state_letter, section_state, state_after-lt, IsTerm-state_term}
 use Rattle.fr_model.proofs.TermLaws.{act-IsWord, act-append, IsWord-append}
+use Rattle.fr_machine.specs.declared.row.Row.{Row}
+use Rattle.fr_machine.specs.Rows.{IsMachine, row_term, states_of}
+use Rattle.fr_machine.specs.Minimal.{AreUnlike}
+use Rattle.fr_machine.proofs.RowLaws.{IsAutomaton-states_of, length-states_of}
 use Rattle.fr_canon.proofs.ApartLaws.{length-le_apart}
 
 -- ---- words that lead to each key
@@ -256,35 +257,17 @@ module _ (d : ℕ) (ps qs : List State) (g : IsAutomaton d ps) (h : IsAutomaton 
         },
       )
 
--- ---- states of a canonical automaton
-module _ (d : ℕ) (t : Term) (valid : IsTerm d t) (qs : List State) (a : IsCanonical d t qs) where
-  acts : (w : List ℕ) (k : ℕ) → k < length qs → IsWord d w → act (Section t (get_or a.words k [])) w ≡ act (state_term qs k) w
-  acts [] k l c = act-nil (Section t (get_or a.words k [])) ∙ sym (act-nil (state_term qs k))
-  acts (x ∷ w) k l c =
-      let v = get_or a.words k [] in
-      let m : k < length a.words = omega (arith, l, a.count) in
-      act-append (Section t v) (x ∷ []) w
-      ∙ rw (a.outputs k x m c.0, (section_section t v (x ∷ [])).images w, (a.nexts k x m c.0).images w, acts w (next_state qs k x) (next_state-lt d qs k x a.automaton l) c.1)
-      (sym (act-state_term d qs k x w a.automaton l c.0))
-
-  -- a state is the section at its least word
-  at_word : (k : ℕ) → k < length qs → IsAlike (Section t (get_or a.words k [])) (state_term qs k)
-  at_word k l = alike_from_words d (valid, (a.least k (omega (arith, l, a.count))).valid) (IsTerm-state_term d qs k a.automaton l) (λ w c. acts w k l c)
-
-  canonical_apart : AreApartStates qs
-  canonical_apart i j l m e =
-      let il : i < length a.words = omega (arith, l, a.count) in
-      let jl : j < length a.words = omega (arith, m, a.count) in
-      same_place a.words a.ordered i j il jl (least_words_differ d t (get_or a.words i []) (get_or a.words j []) (a.least i il) (a.least j jl)
-      (alike_trans (at_word i l) (alike_trans e (alike_sym (at_word j m)))))
-
-  some_state : 0 < length qs
-  some_state = let z = at_zero d t qs a in omega (arith, a.count, z.0)
-
--- two terms that have codes have a count of pairs
-pub terms_counted : (d : ℕ) (t u : Term) (c e : List ℕ) → IsTerm d t → IsTerm d u → IsCode d t c → IsCode d u e → (n : ℕ) × IsPairCount d t u n
-terms_counted d t u c e vt vu x y =
-    let ps = x.states in
-    let qs = y.states in
-    let n = states_counted d ps qs x.canonical.automaton y.canonical.automaton (canonical_apart d t vt ps x.canonical) (canonical_apart d u vu qs y.canonical) 0 0 (some_state d t vt ps x.canonical) (some_state d u vu qs y.canonical) in
-    (n.0, IsPairCount-alike d (state_term ps 0) t (state_term qs 0) u n.0 (alike_sym (canonical_alike d t vt ps x.canonical)) (alike_sym (canonical_alike d u vu qs y.canonical)) n.1)
+-- two rows of machines of unlike rows have a count of pairs
+pub rows_counted : (d : ℕ) (m n : List Row) (s t : ℕ) → IsMachine d m → AreUnlike m → IsMachine d n → AreUnlike n → s < length m → t < length n → (count : ℕ) × IsPairCount d (row_term m s) (row_term n t) count
+rows_counted d m n s t hm um hn un ls lt =
+    let sm = length-states_of m in
+    let sn = length-states_of n in
+    states_counted d (states_of m) (states_of n) (IsAutomaton-states_of d m hm) (IsAutomaton-states_of d n hn) (apart_states m um) (apart_states n un) s t (omega (arith, ls, sm)) (omega (arith, lt, sn))
+  where
+    apart_states : (rows : List Row) → AreUnlike rows → AreApartStates (states_of rows)
+    apart_states rows u i j il jl e =
+        let size = length-states_of rows in
+        elim (cases_order i j) [
+          | inl same ↦ same
+          | inr o ↦ elim o [ inl l ↦ absurd (u i j l (omega (arith, jl, size)) e) | inr l ↦ absurd (u j i l (omega (arith, il, size)) (alike_sym e)) ]
+        ]

@@ -189,14 +189,6 @@ module _ (d : ℕ) (rows : List Row) (places : List Place) (a : AreBlocks d rows
     pub IsUnknown-new : (t : Term) (out : List ℕ) → IsNew code handles out → ((c : List ℕ) → IsCode d t c → c ≡ out) → IsUnknown d known t
     IsUnknown-new t out new only n c k is = let x = known_is code handles n c k in new n x.0 (x.1 ∙ only c is)
 
-    -- a row that is a handle is the handle of its element
-    pub own_handle : (h : Handle) → IsKnown known h → get_or links h.node 0 ≡ h.node
-    own_handle h k =
-        let x = holds-IsKnown code handles h k in
-        let l = handle-lt h.node x.0 in
-        let m : h.node < length links = omega (arith, l, whole) in
-        one_handle code (length rows) handles i.distinct (get_or links h.node 0) h.node (i.is_handle h.node m) x.0 (i.linked h.node m)
-
     pub handle_count : IsHandleCount known (length handles)
     handle_count = record {
       members = handles;

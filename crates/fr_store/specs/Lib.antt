@@ -1,5 +1,4 @@
 pub mod Store
-pub mod Nuclei
 pub mod Through
 pub mod Blocks
 pub mod Coded
@@ -8,6 +7,4 @@ pub mod Props
 pub mod Entered
 pub mod Products
 pub mod Inverses
-pub mod Remembered
-pub mod Listed
 pub mod VecView

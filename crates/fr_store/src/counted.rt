@@ -7,14 +7,13 @@ ghost use Rattle.fr_machine.specs.Rows.{row_term, states_of};
 ghost use Rattle.fr_store.specs.Store.{IsKnown, Stands, AreHandles, Reads};
 
 use crate::handle::{Full, Handle};
-use crate::nucleus_answer::NucleusAnswer;
 use crate::store::Store;
 use fr_alphabet::{Alphabet, NoMemory, Perm};
 use fr_machine::Minimal;
 use std::alloc::Global;
 
 /// A store that is another in all that contracts see, and counts the calls of `machine`, for tests that a caller makes no
-/// machine twice.
+/// machine twice. This project's own.
 #[derive(Debug, Drop)]
 pub struct Counted<S> {
     inner: S,
@@ -118,13 +117,5 @@ impl<S: Store> Store for Counted<S> {
 
     fn remember_identity(&mut self, h: Handle) {
         self.inner.remember_identity(h);
-    }
-
-    fn recall_nucleus(&self, elements: &[Handle]) -> Option<&NucleusAnswer> {
-        self.inner.recall_nucleus(elements)
-    }
-
-    fn remember_nucleus(&mut self, elements: Vec<Handle>, answer: NucleusAnswer) {
-        self.inner.remember_nucleus(elements, answer);
     }
 }

@@ -1,8 +1,8 @@
 //! Handles of elements, and the answer of a store that is full.
 
 /// The handle of an element in one store, as a number. Two handles of a store are equal exactly where their elements act
-/// alike. On the pattern of the handles of hash-consed terms.
-#[derive(Clone, Copy, Debug, PartialEq, Eq, PartialOrd, Ord)]
+/// alike. This project's own, after the handles of hash-consed terms.
+#[derive(Clone, Copy, Debug, PartialEq, Eq)]
 pub struct Handle {
     /// The number.
     pub node: u32,

@@ -8,19 +8,15 @@ ghost use Rattle.fr_model.specs.Classes.{IsSize};
 ghost use Rattle.fr_model.specs.Canonical.{IsCanonical};
 ghost use Rattle.fr_machine.specs.Rows.{row_term, states_of};
 ghost use Rattle.fr_store.specs.Store.{View, IsKnown, Stands, StandsForTerm, AreHandles, Keeps, SameKnown, Continues, Interns, Reads, IsProductOf, IsRecalled, IsInverseOf, known_code};
-ghost use Rattle.std.specs.List.{All};
-ghost use Rattle.fr_store.specs.Nuclei.{IsNucleusAnswer};
 
 use crate::handle::{Full, Handle};
-use crate::nucleus_answer::NucleusAnswer;
 use fr_alphabet::{Alphabet, NoMemory, Perm};
 use fr_machine::Minimal;
 use std::alloc::Global;
 
 /// A store of elements over one alphabet. It gives a handle to each element that is interned, and to each of its sections,
 /// and keeps it for good. How many rows may be claimed for them in all is fixed. Handles that are lent to a call have to be
-/// known. Every call but `machine` takes no memory. A store may answer None to each `recall` and drop what it is offered;
-/// the calls for inverses, the identity and nuclei have bodies that do so. On the pattern of hash-consing.
+/// known. Every call but `machine` takes no memory. This project's own, on the pattern of hash-consing.
 pub trait Store {
     /// What contracts see of the store.
     ghost view: { View Self };
@@ -112,55 +108,23 @@ pub trait Store {
         requires { IsKnown (view.known self.old) a }
         ensures inverse { IfSome result (λ h. (t : Term) → Stands view self.old a t → StandsForTerm (view.alphabet self.old) (view.known self.new) h (Inverse t)) }
         ensures known { IfSome result (λ h. IsKnown (view.known self.new) h) }
-        ensures handles { IfSome result (λ h. AreHandles (view.alphabet self.old) (view.known self.new)) }
-        ensures reads { Reads view self.old self.new }
-    {
-        let _ = a;
-        None
-    }
+        ensures handles { AreHandles (view.alphabet self.old) (view.known self.new) }
+        ensures reads { Reads view self.old self.new };
 
     /// Offers `b` as the handle of the inverse of `a`; a store may keep it for a later `recall_inverse`.
     fn remember_inverse(&mut self, a: Handle, b: Handle)
         requires { IsInverseOf (view.alphabet self.old) (view.known self.old) a b }
-        ensures { Reads view self.old self.new }
-    {
-        let _ = (a, b);
-    }
+        ensures { Reads view self.old self.new };
 
     /// The handle of the identity, where it is at hand, and None else. Nothing becomes known.
     fn recall_identity(&mut self) -> Option<Handle>
         ensures identity { IfSome result (λ h. StandsForTerm (view.alphabet self.old) (view.known self.new) h One) }
-        ensures reads { Reads view self.old self.new }
-    {
-        None
-    }
+        ensures reads { Reads view self.old self.new };
 
     /// Offers `h` as the handle of the identity; a store may keep it for a later `recall_identity`.
     fn remember_identity(&mut self, h: Handle)
         requires { StandsForTerm (view.alphabet self.old) (view.known self.old) h One }
-        ensures { Reads view self.old self.new }
-    {
-        let _ = h;
-    }
-
-    /// What is known of the nucleus of the group of the elements of these handles, where it is at hand, and None else. It is
-    /// found by the list, so a caller sorts the handles.
-    fn recall_nucleus(&self, elements: &[Handle]) -> Option<&NucleusAnswer>
-        requires { All (IsKnown (view.known self.now)) elements.now }
-        ensures { IfSome result (λ n. ∥ IsNucleusAnswer (view.alphabet self.now) (view.known self.now) elements.now n.now ∥₁) }
-    {
-        let _ = elements;
-        None
-    }
-
-    /// Offers what is known of the nucleus of the group of the elements of these handles; a store may keep it for a later
-    /// `recall_nucleus`.
-    fn remember_nucleus(&mut self, elements: Vec<Handle>, answer: NucleusAnswer)
-        requires { IsNucleusAnswer (view.alphabet self.old) (view.known self.old) elements.items answer }
-        ensures { Reads view self.old self.new }
-    {
-        let _ = (elements, answer);
-    }
+        ensures { Reads view self.old self.new };
 
     ghost kin_to_self: { (s : Self) → view.kin s s };
 

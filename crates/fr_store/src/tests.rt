@@ -70,34 +70,6 @@ fn calls_of_machine_are_counted(rt: HostRuntime) -> Result<(), Fail> {
     Ok(())
 }
 
-#[test]
-fn handles_are_listed_in_order(rt: HostRuntime) -> Result<(), Fail> {
-    let a = Alphabet::new(2).expect(&rt, "two letters");
-    let t = read_machine(rt.alloc(), a, ADDING)?;
-    let e = read_machine(rt.alloc(), a, EXCHANGE)?;
-    let mut store = VecStore::new(rt.alloc(), a, 8)?;
-    let h = store.intern(&t).ok().expect(&rt, "room");
-    let one = store.section(h, 1);
-    let k = store.intern(&e).ok().expect(&rt, "room");
-    let all = store.handles(rt.alloc())?;
-    assert_eq!(rt; all.as_slice(), [h, one, k].as_slice());
-    Ok(())
-}
-
-#[test]
-fn what_was_offered_is_recalled(rt: HostRuntime) -> Result<(), Fail> {
-    let a = Alphabet::new(2).expect(&rt, "two letters");
-    let e = read_machine(rt.alloc(), a, EXCHANGE)?;
-    let mut store = Remembering::new(rt.alloc(), VecStore::new(rt.alloc(), a, 8)?)?;
-    let h = store.intern(&e).ok().expect(&rt, "room");
-    assert_eq!(rt; store.recall(h, h), None);
-    assert_eq!(rt; store.recall_inverse(h), None);
-    assert_eq!(rt; store.recall_identity(), None);
-    assert_eq!(rt; store.recall_nucleus(&[h]).is_none(), true);
-    assert_eq!(rt; store.into_inner().claimed(), 2);
-    Ok(())
-}
-
 // The handle of the square, where it is at hand; it is offered again.
 fn product_at_hand<S: Store>(store: &mut S, h: Handle) -> Option<Handle>
     requires known { IsKnown (S.view.known store.old) h }

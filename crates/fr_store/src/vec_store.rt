@@ -4,12 +4,15 @@ ghost use Rattle.std.specs.Prelude.{ℕ, ◌≡◌, ◌≤◌, ◌<◌, ◌+◌,
 ghost use Rattle.fr_model.specs.Terms.{Term};
 ghost use Rattle.fr_store.specs.Coded.{codes_of};
 ghost use Rattle.fr_store.specs.Index.{IsIndex, IsTable, known_in};
-ghost use Rattle.fr_store.specs.Listed.{AreAllInOrder};
-ghost use Rattle.fr_store.specs.Store.{IsKnown, AreHandles, IsHandleCount, Reads};
+ghost use Rattle.fr_store.specs.Products.{AreProducts};
+ghost use Rattle.fr_store.specs.Inverses.{AreInverses, IsIdentity};
+ghost use Rattle.fr_store.specs.Store.{IsKnown, Stands, AreHandles, IsHandleCount, IsRecalled, Reads};
 
 use crate::blocks::Blocks;
 use crate::handle::{Full, Handle};
 use crate::index::{Desk, Index};
+use crate::inverses::Inverses;
+use crate::products::Products;
 use crate::store::Store;
 use fr_alphabet::{Alphabet, NoMemory, Perm};
 use fr_canon::canon;
@@ -17,16 +20,24 @@ use fr_machine::Minimal;
 use std::alloc::Global;
 
 /// A store for one thread. It keeps the rows of the elements that were claimed, and finds its handles by a hash of their
-/// codes, which are compared with the rows themselves. It keeps how many states an element has, once it is known, and
-/// remembers nothing else that it was offered. All memory is taken when it is made.
+/// codes, which are compared with the rows themselves. It keeps how many states an element has, once it is known. It
+/// remembers the identity, some 8,000 products and some 1,000 inverses, and forgets one of these where another needs its
+/// place. All memory is taken when it is made. This project's own.
 #[derive(Debug, Drop)]
 pub struct VecStore {
     blocks: Blocks,
     index: Index,
     capacity: u32,
     desk: Desk,
+    products: Products,
+    inverses: Inverses,
+    // The handle of the identity, where it was offered.
+    identity: Option<Handle>,
     ghost is_index: { IsIndex (codes_of blocks) (length blocks.rows.items) index.handles.items index.links.items },
     ghost is_table: { IsTable (codes_of blocks) index.handles.items index.cells.items },
+    ghost are_products: { AreProducts blocks.alphabet (known_in (codes_of blocks) index.handles.items) products.entries.items },
+    ghost are_inverses: { AreInverses blocks.alphabet (known_in (codes_of blocks) index.handles.items) inverses.entries.items },
+    ghost is_identity: { IsIdentity blocks.alphabet (known_in (codes_of blocks) index.handles.items) identity },
     ghost whole: { length index.links.items ≡ length blocks.rows.items },
     ghost fits: { length blocks.rows.items ≤ capacity },
     ghost some: { 1 ≤ capacity },
@@ -60,6 +71,9 @@ impl VecStore {
             index: Index::new(alloc, capacity)?,
             capacity,
             desk: Desk::new(alloc)?,
+            products: Products::new(alloc)?,
+            inverses: Inverses::new(alloc)?,
+            identity: None,
         })
     }
 
@@ -68,21 +82,6 @@ impl VecStore {
         ensures { result ≡ vec_view.own self.now }
     {
         self.blocks.rows.len() as u64
-    }
-
-    /// Its handles, each once, in order of number. The only error is want of memory.
-    pub fn handles(&self, alloc: Global) -> Result<Vec<Handle>, NoMemory>
-        ensures { IfOk result (λ hs. AreAllInOrder (vec_view.known self.now) hs.items) }
-    {
-        let links = &self.index.links;
-        let mut all = Vec::with_capacity(alloc, self.index.handles.len())?;
-        for row in 0..links.len() as u32 {
-            // A row is a handle where it is that of its own element.
-            if links[row as usize] == row {
-                all.push(Handle { node: row })?;
-            }
-        }
-        Ok(all)
     }
 
     /// How many handles it has given, to elements and to their sections: as many as there are elements among these, up to
@@ -157,18 +156,40 @@ impl Store for VecStore {
         self.blocks.machine(alloc, &mut self.desk.scratch, h.node)
     }
 
-    /// None: it keeps no products.
+    /// The handle of the product, first `a` and then `b`, where it was offered and no other took its place. Nothing becomes
+    /// known.
     fn recall(&mut self, a: Handle, b: Handle) -> Option<Handle>
         requires a_known { IsKnown (vec_view.known self.old) a }
         requires b_known { IsKnown (vec_view.known self.old) b }
-        ensures none { result ≡ None }
+        ensures product { IfSome result (λ h. (t u : Term) → Stands vec_view self.old a t → Stands vec_view self.old b u → IsRecalled (vec_view.alphabet self.old) t u (vec_view.known self.old) (vec_view.known self.new) h) }
+        ensures handles { IfSome result (λ h. AreHandles (vec_view.alphabet self.old) (vec_view.known self.new)) }
+        ensures known { IfSome result (λ h. IsKnown (vec_view.known self.new) h) }
         ensures reads { Reads vec_view self.old self.new }
     {
-        let _ = (a, b);
-        None
+        let node = self.products.get(a.node, b.node)?;
+        Some(Handle { node })
     }
 
     fn remember(&mut self, a: Handle, b: Handle, c: Handle) {
-        let _ = (a, b, c);
+        self.products.put(a.node, b.node, c.node);
+    }
+
+    /// The handle of the inverse, where it was offered and no other took its place. Nothing becomes known.
+    fn recall_inverse(&mut self, a: Handle) -> Option<Handle> {
+        let node = self.inverses.get(a.node)?;
+        Some(Handle { node })
+    }
+
+    fn remember_inverse(&mut self, a: Handle, b: Handle) {
+        self.inverses.put(a.node, b.node);
+    }
+
+    /// The handle of the identity, where it was offered. Nothing becomes known.
+    fn recall_identity(&mut self) -> Option<Handle> {
+        self.identity
+    }
+
+    fn remember_identity(&mut self, h: Handle) {
+        self.identity = Some(h);
     }
 }

@@ -1,7 +1,8 @@
-use Rattle.std.proofs.Common.{ℕ, ◌+◌, sym, ◌∙◌, subst, arith, inl, Ok, Err}
+use Rattle.std.proofs.Common.{ℕ, ◌≡◌, ◌+◌, sym, ◌∙◌, subst, arith, inl, Ok, Err}
 use Rattle.std.proofs.lemmas.Result.{err_from_is_err_and}
-use Rattle.fr_model.specs.Terms.{Inverse}
+use Rattle.fr_model.specs.Terms.{Term, Inverse}
 use Rattle.fr_model.specs.Classes.{IsSize}
+use Rattle.fr_store.specs.declared.handle.Handle.{Handle}
 use Rattle.fr_store.specs.Store.{StandsForTerm, Stands, AreHandles}
 use Rattle.fr_store.proofs.StoreLaws.{stands_same, stands_keeps, IsKnown-term, AreHandles-back}
 use Rattle.fr_plain.specs.Steps.{Inverted}
@@ -49,7 +50,7 @@ remember_inverse-requires g c =
     let mid = c.recall_inverse.new.self in
     let new = c.made_inverse.new.store in
     let reads = c.in_default.ensures.reads in
-    let handles = subst (λ (k : ℕ). AreHandles k (view.known old)) reads.continues.alphabet (AreHandles-back (view.alphabet mid) (view.known old) (view.known mid) reads.known c.in_ok-h.ensures.handles) in
+    let handles = AreHandles-back d (view.known old) (view.known mid) reads.known c.in_default.ensures.handles in
     let a = IsKnown-term d (view.known old) c.args.a handles c.requires.known in
     let there = stands_same d (view.known old) (view.known mid) c.args.a a.0 reads.known a.1 in
     let here = subst (λ (k : ℕ). StandsForTerm k (view.known mid) c.args.a a.0) (sym reads.continues.alphabet) there in

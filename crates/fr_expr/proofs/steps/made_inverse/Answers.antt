@@ -1,4 +1,4 @@
-use Rattle.std.proofs.Common.{ℕ, length, subst, sym, ◌∙◌, Result, Ok, Err, IfOk}
+use Rattle.std.proofs.Common.{ℕ, length, subst, sym, ◌∙◌}
 use Rattle.std.proofs.lemmas.Result.{err_from_is_err_and}
 use Rattle.fr_model.specs.Terms.{Inverse, IsTerm, IsAlike}
 use Rattle.fr_model.specs.Classes.{IsSize}
@@ -7,8 +7,6 @@ use Rattle.fr_model.proofs.AlikeLaws.{alike_trans, alike_inverse}
 use Rattle.fr_model.proofs.ClassLaws.{IsSize-alike}
 use Rattle.fr_machine.proofs.RowLaws.{IsTerm-row_term}
 use Rattle.fr_machine.proofs.MinimalLaws.{IsSize-minimal_rows}
-use Rattle.fr_store.specs.Store.{AreHandles}
-use Rattle.fr_store.proofs.StoreLaws.{AreHandles-back}
 use Rattle.fr_plain.specs.Steps.{Inverted}
 use Rattle.fr_plain.specs.Expansions.{inverse_of}
 use Rattle.fr_expr.specs.Evaluation.{Evaluates}
@@ -38,13 +36,3 @@ returns-clause-evaluates g c = λ t stands.
     let e = c.enter.ensures.evaluates (Inverted t) (subst (λ (k : ℕ). IsTerm k t) (sym on) stands.term) alike (subst (λ (k : ℕ). IsSize k (Inverse t) (length q.rows)) (sym on) size) in
     after_reads view g.met.S.Store.kin_onward d (inverse_of t) c.args.store.now mid c.enter.new.store c.args.charge.now c.enter.new.charge c.enter.result c.in_ok-m.ensures.reads
     (subst (λ (k : ℕ). Evaluates view k mid c.enter.new.store c.args.charge.now c.enter.new.charge (inverse_of t) c.enter.result) on e)
-
-either_way : {A E : Type 0} (r : Result A E) (X : Type 0) → X → IfOk r (λ a. X)
-either_way (Ok a) X x = x
-either_way (Err e) X x = tt
-
-pub returns-clause-handles : goal.returns-clause-handles
-returns-clause-handles g c =
-    let view = g.S.Store.view in
-    either_way c.enter.result (AreHandles (view.alphabet c.args.store.now) (view.known c.args.store.now))
-    (AreHandles-back (view.alphabet c.args.store.now) (view.known c.args.store.now) (view.known c.machine.new.self) c.in_ok-m.ensures.reads.known c.in_ok-m.ensures.handles)

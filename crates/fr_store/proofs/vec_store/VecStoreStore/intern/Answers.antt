@@ -11,6 +11,10 @@ use Rattle.fr_store.specs.Index.{known_in, IsIndex}
 use Rattle.fr_store.proofs.TableLaws.{IsNew-gap}
 use Rattle.fr_store.proofs.StoreLaws.{IsKnown-stands}
 use Rattle.fr_store.proofs.VecLaws.{AreHandles-index, IsKnown-holds, known_from, IsUnknown-new}
+use Rattle.fr_store.specs.Products.{AreProducts}
+use Rattle.fr_store.specs.Inverses.{AreInverses, IsIdentity}
+use Rattle.fr_store.proofs.ProductLaws.{AreProducts-keeps}
+use Rattle.fr_store.proofs.InverseLaws.{AreInverses-keeps, IsIdentity-keeps}
 use Rattle.fr_store.proofs.vec_store.VecStoreStore.intern.Goals as goal
 
 -- the only code of a term, at the alphabet of the store
@@ -147,3 +151,55 @@ returns-clause-known c =
     let valid = subst P c.requires (IsTerm-row_term m.alphabet m.rows 0 c.machine.ensures.valid.machine c.machine.ensures.valid.machine.least) in
     let stands = subst Q (sym c.enter-node.ensures.alphabet) (c.enter-node.ensures.entered.handle t valid (alike_refl t)) in
     IsKnown-stands n.alphabet (known_in (code_at n.alphabet n.rows.items n.places.items) hs) (record { node = c.enter-node.result }) t stands
+
+-- what was remembered is still true
+pub invariant_of-self-3-clause-are_products : goal.invariant_of-self-3-clause-are_products
+invariant_of-self-3-clause-are_products c =
+    let s = c.args.self.now in
+    let b = s.blocks in
+    let n = c.enter-node.new.blocks in
+    let m = c.args.m.now in
+    let t = row_term m.rows 0 in
+    let P : ℕ → Type 0 = λ d. IsTerm d t in
+    let old = known_in (code_at b.alphabet b.rows.items b.places.items) s.index.handles.items in
+    let new = λ (d : ℕ). known_in (code_at d n.rows.items n.places.items) c.enter-node.new.self.handles.items in
+    let Q : ℕ → Type 0 = λ d. AreProducts d (new d) s.products.entries.items in
+    let valid = subst P c.requires (IsTerm-row_term m.alphabet m.rows 0 c.machine.ensures.valid.machine c.machine.ensures.valid.machine.least) in
+    let R : List ℕ → Type 0 = λ hs. IsEntered b.alphabet b.rows.items b.places.items hs c.args.m.now.rows c.enter-node.new.blocks.rows.items c.enter-node.new.blocks.places.items c.enter-node.new.self.handles.items c.enter-node.new.self.links.items c.enter-node.new.self.cells.items c.enter-node.result in
+    let e = subst R (ap (λ v. v.items) c.make_room.ensures.handles) c.enter-node.ensures.entered in
+    let keeps = (e.grows t valid (alike_refl t)).keeps in
+    subst Q (sym c.enter-node.ensures.alphabet) (AreProducts-keeps b.alphabet old (new b.alphabet) s.products.entries.items keeps s.are_products)
+
+pub invariant_of-self-3-clause-are_inverses : goal.invariant_of-self-3-clause-are_inverses
+invariant_of-self-3-clause-are_inverses c =
+    let s = c.args.self.now in
+    let b = s.blocks in
+    let n = c.enter-node.new.blocks in
+    let m = c.args.m.now in
+    let t = row_term m.rows 0 in
+    let P : ℕ → Type 0 = λ d. IsTerm d t in
+    let old = known_in (code_at b.alphabet b.rows.items b.places.items) s.index.handles.items in
+    let new = λ (d : ℕ). known_in (code_at d n.rows.items n.places.items) c.enter-node.new.self.handles.items in
+    let Q : ℕ → Type 0 = λ d. AreInverses d (new d) s.inverses.entries.items in
+    let valid = subst P c.requires (IsTerm-row_term m.alphabet m.rows 0 c.machine.ensures.valid.machine c.machine.ensures.valid.machine.least) in
+    let R : List ℕ → Type 0 = λ hs. IsEntered b.alphabet b.rows.items b.places.items hs c.args.m.now.rows c.enter-node.new.blocks.rows.items c.enter-node.new.blocks.places.items c.enter-node.new.self.handles.items c.enter-node.new.self.links.items c.enter-node.new.self.cells.items c.enter-node.result in
+    let e = subst R (ap (λ v. v.items) c.make_room.ensures.handles) c.enter-node.ensures.entered in
+    let keeps = (e.grows t valid (alike_refl t)).keeps in
+    subst Q (sym c.enter-node.ensures.alphabet) (AreInverses-keeps b.alphabet old (new b.alphabet) s.inverses.entries.items keeps s.are_inverses)
+
+pub invariant_of-self-3-clause-is_identity : goal.invariant_of-self-3-clause-is_identity
+invariant_of-self-3-clause-is_identity c =
+    let s = c.args.self.now in
+    let b = s.blocks in
+    let n = c.enter-node.new.blocks in
+    let m = c.args.m.now in
+    let t = row_term m.rows 0 in
+    let P : ℕ → Type 0 = λ d. IsTerm d t in
+    let old = known_in (code_at b.alphabet b.rows.items b.places.items) s.index.handles.items in
+    let new = λ (d : ℕ). known_in (code_at d n.rows.items n.places.items) c.enter-node.new.self.handles.items in
+    let Q : ℕ → Type 0 = λ d. IsIdentity d (new d) s.identity in
+    let valid = subst P c.requires (IsTerm-row_term m.alphabet m.rows 0 c.machine.ensures.valid.machine c.machine.ensures.valid.machine.least) in
+    let R : List ℕ → Type 0 = λ hs. IsEntered b.alphabet b.rows.items b.places.items hs c.args.m.now.rows c.enter-node.new.blocks.rows.items c.enter-node.new.blocks.places.items c.enter-node.new.self.handles.items c.enter-node.new.self.links.items c.enter-node.new.self.cells.items c.enter-node.result in
+    let e = subst R (ap (λ v. v.items) c.make_room.ensures.handles) c.enter-node.ensures.entered in
+    let keeps = (e.grows t valid (alike_refl t)).keeps in
+    subst Q (sym c.enter-node.ensures.alphabet) (IsIdentity-keeps b.alphabet old (new b.alphabet) s.identity keeps s.is_identity)

@@ -5,6 +5,8 @@ use Rattle.fr_store.specs.declared.blocks.Blocks.{Blocks}
 use Rattle.fr_store.specs.Blocks.{code_at}
 use Rattle.fr_store.specs.Coded.{codes_of}
 use Rattle.fr_store.specs.Index.{known_in, IsIndex, IsTable}
+use Rattle.fr_store.specs.Products.{AreProducts}
+use Rattle.fr_store.specs.Inverses.{AreInverses, IsIdentity}
 use Rattle.fr_store.proofs.VecLaws.{AreHandles-index, handle_row, own_alike}
 use Rattle.fr_store.proofs.vec_store.VecStoreStore.states.Goals as goal
 
@@ -73,3 +75,36 @@ invariant_of-self-2-clause-is_table c =
     let same = same_codes b n k.alphabet k.rows k.places in
     let P : (ℕ → List ℕ) → Type 0 = λ code. IsTable code s.index.handles.items s.index.cells.items in
     subst P (sym same) s.is_table
+
+pub invariant_of-self-2-clause-are_products : goal.invariant_of-self-2-clause-are_products
+invariant_of-self-2-clause-are_products c =
+    let s = c.args.self.now in
+    let b = s.blocks in
+    let k = c.states.ensures in
+    let n = c.states.new.self in
+    let same = same_codes b n k.alphabet k.rows k.places in
+    let P : (ℕ → List ℕ) → Type 0 = λ code. AreProducts n.alphabet (known_in code s.index.handles.items) s.products.entries.items in
+    let Q : ℕ → Type 0 = λ d. AreProducts d (known_in (codes_of b) s.index.handles.items) s.products.entries.items in
+    subst P (sym same) (subst Q (sym k.alphabet) s.are_products)
+
+pub invariant_of-self-2-clause-are_inverses : goal.invariant_of-self-2-clause-are_inverses
+invariant_of-self-2-clause-are_inverses c =
+    let s = c.args.self.now in
+    let b = s.blocks in
+    let k = c.states.ensures in
+    let n = c.states.new.self in
+    let same = same_codes b n k.alphabet k.rows k.places in
+    let P : (ℕ → List ℕ) → Type 0 = λ code. AreInverses n.alphabet (known_in code s.index.handles.items) s.inverses.entries.items in
+    let Q : ℕ → Type 0 = λ d. AreInverses d (known_in (codes_of b) s.index.handles.items) s.inverses.entries.items in
+    subst P (sym same) (subst Q (sym k.alphabet) s.are_inverses)
+
+pub invariant_of-self-2-clause-is_identity : goal.invariant_of-self-2-clause-is_identity
+invariant_of-self-2-clause-is_identity c =
+    let s = c.args.self.now in
+    let b = s.blocks in
+    let k = c.states.ensures in
+    let n = c.states.new.self in
+    let same = same_codes b n k.alphabet k.rows k.places in
+    let P : (ℕ → List ℕ) → Type 0 = λ code. IsIdentity n.alphabet (known_in code s.index.handles.items) s.identity in
+    let Q : ℕ → Type 0 = λ d. IsIdentity d (known_in (codes_of b) s.index.handles.items) s.identity in
+    subst P (sym same) (subst Q (sym k.alphabet) s.is_identity)

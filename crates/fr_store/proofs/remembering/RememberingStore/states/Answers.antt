@@ -1,7 +1,0 @@
-use Rattle.fr_store.proofs.RememberedLaws.{AreRemembered-reads}
-use Rattle.fr_store.proofs.remembering.RememberingStore.states.Goals as goal
-
-pub invariant_of-self : goal.invariant_of-self
-invariant_of-self g c =
-    let s = c.args.self.now in
-    record { remembered = AreRemembered-reads g.S.Store.view s.inner c.states.new.self s.products.entries.items s.inverses.entries.items s.identity s.nuclei.entries.items c.states.ensures.reads s.remembered }
